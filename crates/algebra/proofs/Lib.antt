@@ -1,0 +1,10 @@
+pub mod Integers
+pub mod Polynomials
+pub mod Products
+pub mod Bounded
+pub mod Tests
+pub mod Vectors
+pub mod Chord
+pub mod Mirror
+pub mod Arc
+pub mod Computed

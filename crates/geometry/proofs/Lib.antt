@@ -1,0 +1,4 @@
+pub mod InRange
+pub mod Straight
+pub mod Lift
+pub mod Decided

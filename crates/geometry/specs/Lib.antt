@@ -1,0 +1,11 @@
+pub mod Refusals
+pub mod Axes
+pub mod Ranges
+pub mod Points
+pub mod Motions
+pub mod Paths
+pub mod Areas
+pub mod Deciding
+pub mod Sizes
+pub mod Settings
+pub mod Model

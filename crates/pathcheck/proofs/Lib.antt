@@ -1,0 +1,3 @@
+pub mod FieldLists
+pub mod DigitRuns
+pub mod Settled
