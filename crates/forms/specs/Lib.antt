@@ -1,0 +1,5 @@
+pub mod Groups
+pub mod Words
+pub mod Kinds
+pub mod Forms
+pub mod Model

@@ -1,0 +1,4 @@
+mod Lined
+mod Telling
+mod Counted
+mod Lawful

@@ -1,0 +1,11 @@
+use mathlib.Core.Path.{_≡_}
+use Prim.Native.Nat.{_+_, _-_, _≤_}
+use lib.ListN.{length, drop}
+use Rattle.lexer.specs.Bytes.{run, inName}
+use Rattle.lexer.proofs.runs.name_end.Given as given
+
+abbrev pub Inv-loop-i : given.InvT-loop-i
+Inv-loop-i l = (l .i ≤ length (l .line)) × (l .i + run inName (drop (l .i) (l .line)) ≡ l .from + run inName (drop (l .from) (l .line)))
+
+abbrev pub μ-loop-i : given.MeasureT-loop-i
+μ-loop-i l = length (l .line) - l .i
