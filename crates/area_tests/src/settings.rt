@@ -8,6 +8,7 @@ use geometry::area::Area;
 use geometry::axes::Axes;
 use geometry::axes::AxesPartialEq;
 use geometry::axes::Plane;
+use geometry::axes::Position;
 use geometry::edge::Edge;
 use geometry::home::Home;
 use geometry::limit_box::LimitBox;
@@ -46,101 +47,40 @@ fn row_comes_back() -> Result<(), Fail> {
     check(motion(kind, row.start, row.end)?.row() == row)
 }
 
-#[test]
-fn rows_that_make_no_motion() -> Result<(), Fail> {
-    let kind = PathKind::Line;
-    check_eq(
-        refused(
-            &Row {
-                kind,
-                start: at(0, 0, 0),
-                end: at(0, 2_000_001, 0),
-            },
-        ),
-        4,
-    )?;
-    check_eq(
-        refused(
-            &Row {
-                kind,
-                start: at(0, 0, -2_000_001),
-                end: at(0, 0, 0),
-            },
-        ),
-        4,
-    )?;
-    check_eq(
-        refused(
-            &Row {
-                kind,
-                start: at(0, 0, 0),
-                end: at(0, 0, -2_000_000),
-            },
-        ),
-        0,
-    )?;
-    let far = Vector { u: 0, v: 4_000_001 };
-    let kind = PathKind::Arc(Arc {
-        plane: Plane::XY,
-        turn: Turn::Clockwise,
-        centre: far,
-    });
-    check_eq(
-        refused(
-            &Row {
-                kind,
-                start: at(0, 1, 0),
-                end: at(0, 2, 5),
-            },
-        ),
-        4,
-    )?;
-    let centre = Vector { u: 0, v: 0 };
+/// A line from one position to another.
+fn line(start: Position, end: Position) -> Row {
+    Row {
+        kind: PathKind::Line,
+        start,
+        end,
+    }
+}
+
+/// A clockwise arc in the plane XY about a centre with u = 0.
+fn arc(start: Position, end: Position, v: i32) -> Row {
+    let centre = Vector { u: 0, v };
     let kind = PathKind::Arc(Arc {
         plane: Plane::XY,
         turn: Turn::Clockwise,
         centre,
     });
-    check_eq(
-        refused(
-            &Row {
-                kind,
-                start: at(0, 5, 0),
-                end: at(3, 4, 0),
-            },
-        ),
-        0,
-    )?;
-    check_eq(
-        refused(
-            &Row {
-                kind,
-                start: at(0, 5, 0),
-                end: at(3, 4, 1),
-            },
-        ),
-        5,
-    )?;
-    check_eq(
-        refused(
-            &Row {
-                kind,
-                start: at(0, 5, 0),
-                end: at(3, 5, 0),
-            },
-        ),
-        5,
-    )?;
-    check_eq(
-        refused(
-            &Row {
-                kind,
-                start: at(0, 0, 0),
-                end: at(0, 0, 0),
-            },
-        ),
-        5,
-    )
+    Row { kind, start, end }
+}
+
+#[test]
+fn rows_out_of_range() -> Result<(), Fail> {
+    check_eq(refused(&line(at(0, 0, 0), at(0, 2_000_001, 0))), 4)?;
+    check_eq(refused(&line(at(0, 0, -2_000_001), at(0, 0, 0))), 4)?;
+    check_eq(refused(&line(at(0, 0, 0), at(0, 0, -2_000_000))), 0)?;
+    check_eq(refused(&arc(at(0, 1, 0), at(0, 2, 5), 4_000_001)), 4)
+}
+
+#[test]
+fn rows_that_break_the_arc_rule() -> Result<(), Fail> {
+    check_eq(refused(&arc(at(0, 5, 0), at(3, 4, 0), 0)), 0)?;
+    check_eq(refused(&arc(at(0, 5, 0), at(3, 4, 1), 0)), 5)?;
+    check_eq(refused(&arc(at(0, 5, 0), at(3, 5, 0), 0)), 5)?;
+    check_eq(refused(&arc(at(0, 0, 0), at(0, 0, 0), 0)), 5)
 }
 
 #[test]
