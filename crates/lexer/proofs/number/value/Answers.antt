@@ -11,11 +11,11 @@ few v n h lt =
     let p : 10 ^ n ≤ 10 ^ 6 = pow-le-pow_right {n = 10} (lit< tt) le in
     omega (arith, p)
 
-pub overflow-mul-v : goal.overflow-mul-v
-overflow-mul-v c = record { fits = omega (arith, few c.loop-b.v c.loop-b.b-index c.loop-b.invariant.1 (omega arith)) }
+pub overflow_mul-v : goal.overflow_mul-v
+overflow_mul-v c = record { fits = omega (arith, few c.loop-b.v c.loop-b.b-index c.loop-b.invariant.1 (omega arith)) }
 
-pub overflow-add-v : goal.overflow-add-v
-overflow-add-v c = record { fits = omega (arith, few c.loop-b.v c.loop-b.b-index c.loop-b.invariant.1 (omega arith), c.digit.ensures.value) }
+pub overflow_add-v : goal.overflow_add-v
+overflow_add-v c = record { fits = omega (arith, few c.loop-b.v c.loop-b.b-index c.loop-b.invariant.1 (omega arith), c.digit.ensures.value) }
 
 pub loop-b-preserved : goal.loop-b-preserved
 loop-b-preserved c =

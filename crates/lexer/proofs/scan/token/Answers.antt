@@ -13,7 +13,7 @@ returns-in-Name c =
     let i = c.loop-i.i in
     let lt = c.loop-i-test.true in
     let told = c.in-Name.ensures in
-    let to = c.name-end-to in
+    let to = c.name_end-to in
     cut s i lt c.args.at c.loop-i.invariant _ _ told.value c.byte.ensures.value _ (run in_name (drop i s)) to.result
     (name_at_lem s i lt to.result c.closed.result to.ensures.value c.closed.ensures.value)
     to.ensures.value (name_some s i lt told.tells) tt (name_placed s i lt to.result (omega arith) to.ensures.high)

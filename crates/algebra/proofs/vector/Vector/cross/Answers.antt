@@ -4,15 +4,15 @@ use Rattle.algebra.proofs.Bounded.{computed, sub, sub_fits}
 use Rattle.algebra.proofs.Computed.{product_num}
 use Rattle.algebra.proofs.vector.Vector.cross.Goals as goal
 
-pub overflow-sub-result : goal.overflow-sub-result
-overflow-sub-result c =
-    let p = product_num c.args.self.u c.args.other.v (search rules) (search rules) c.product.type-inv c.product.ensures.value in
-    let q = product_num c.args.self.v c.args.other.u (search rules) (search rules) c.product-2.type-inv c.product-2.ensures.value in
+pub overflow_sub-result : goal.overflow_sub-result
+overflow_sub-result c =
+    let p = product_num c.args.self.u c.args.other.v (search rules) (search rules) c.product.type_inv c.product.ensures.value in
+    let q = product_num c.args.self.v c.args.other.u (search rules) (search rules) c.product-2.type_inv c.product-2.ensures.value in
     sub_fits w128 p q (lit< tt)
 
 pub returns : goal.returns
 returns c =
-    let p = product_num c.args.self.u c.args.other.v (search rules) (search rules) c.product.type-inv c.product.ensures.value in
-    let q = product_num c.args.self.v c.args.other.u (search rules) (search rules) c.product-2.type-inv c.product-2.ensures.value in
+    let p = product_num c.args.self.u c.args.other.v (search rules) (search rules) c.product.type_inv c.product.ensures.value in
+    let q = product_num c.args.self.v c.args.other.u (search rules) (search rules) c.product-2.type_inv c.product-2.ensures.value in
     let r = sub w128 p q (lit< tt) in
     record { value = r.is; bound = computed r }
