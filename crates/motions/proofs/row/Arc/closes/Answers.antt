@@ -25,6 +25,6 @@ returns-else-square c =
     let e = c.args.end.now in
     let ls = leveled a c.w-third.result c.w-third.ensures.value s c.along.result c.along.ensures.value in
     let le = leveled a c.w-third.result c.w-third.ensures.value e c.along-2.result c.along-2.ensures.value in
-    let levels = sym ls ∙ same_bits w32 c.along.type-inv c.along-2.type-inv c.if-along.false ∙ le in
+    let levels = sym ls ∙ same_bits w32 c.along.type_inv c.along-2.type_inv c.if-along.false ∙ le in
     let apart = differing a s e c.square-square.result c.square.result c.square-square.ensures.value c.square.ensures.value c.if-square.false in
     record { value = ne_eqb _ _ c.if-square.false ∙ sym (ap₂ (λ (x y : Bool). x && (y && lt_z (pos 0) (square a s))) (same_yes _ _ levels) apart) }
