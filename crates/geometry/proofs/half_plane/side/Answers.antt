@@ -53,35 +53,35 @@ module _ (r n c d m g : ℤ) (h : Sized r n c d m g) where
       wider : Bounded 20000 n → Bounded 72000000000000 n
       wider b = omega (arith, ints)
 
-pub overflow-mul-gauge : goal.overflow-mul-gauge
-overflow-mul-gauge k = mul_fits w128 (of_r _ _ _ _ _ _ k.requires) (of_n _ _ _ _ _ _ k.requires) (lit< tt)
+pub overflow_mul-gauge : goal.overflow_mul-gauge
+overflow_mul-gauge k = mul_fits w128 (of_r _ _ _ _ _ _ k.requires) (of_n _ _ _ _ _ _ k.requires) (lit< tt)
 
-pub overflow-sub-gauge : goal.overflow-sub-gauge
-overflow-sub-gauge k =
+pub overflow_sub-gauge : goal.overflow_sub-gauge
+overflow_sub-gauge k =
     sub_fits w128 (mul w128 (of_r _ _ _ _ _ _ k.requires) (of_n _ _ _ _ _ _ k.requires) (lit< tt)) (mul w128 (of_d _ _ _ _ _ _ k.requires) (of_c _ _ _ _ _ _ k.requires) (lit< tt)) (lit< tt)
 
-pub overflow-mul-result : goal.overflow-mul-result
-overflow-mul-result k = mul_fits w128 (gap _ _ _ _ _ _ k.requires) (wide_n _ _ _ _ _ _ k.requires) (lit< tt)
+pub overflow_mul-result : goal.overflow_mul-result
+overflow_mul-result k = mul_fits w128 (gap _ _ _ _ _ _ k.requires) (wide_n _ _ _ _ _ _ k.requires) (lit< tt)
 
-pub overflow-add-result : goal.overflow-add-result
-overflow-add-result k =
+pub overflow_add-result : goal.overflow_add-result
+overflow_add-result k =
     add_fits w128 (gauge _ _ _ _ _ _ k.requires) (mul w128 (gap _ _ _ _ _ _ k.requires) (wide_n _ _ _ _ _ _ k.requires) (lit< tt)) (lit< tt)
 
-pub overflow-mul-result-2 : goal.overflow-mul-result-2
-overflow-mul-result-2 k = mul_fits w128 (weight _ _ _ _ _ _ k.requires (wide_n _ _ _ _ _ _ k.requires)) (of_m _ _ _ _ _ _ k.requires) (lit< tt)
+pub overflow_mul-result-2 : goal.overflow_mul-result-2
+overflow_mul-result-2 k = mul_fits w128 (weight _ _ _ _ _ _ k.requires (wide_n _ _ _ _ _ _ k.requires)) (of_m _ _ _ _ _ _ k.requires) (lit< tt)
 
-pub overflow-mul-result-3 : goal.overflow-mul-result-3
-overflow-mul-result-3 k = mul_fits w128 (gap _ _ _ _ _ _ k.requires) (of_r _ _ _ _ _ _ k.requires) (lit< tt)
+pub overflow_mul-result-3 : goal.overflow_mul-result-3
+overflow_mul-result-3 k = mul_fits w128 (gap _ _ _ _ _ _ k.requires) (of_r _ _ _ _ _ _ k.requires) (lit< tt)
 
-pub overflow-add-result-2 : goal.overflow-add-result-2
-overflow-add-result-2 k =
+pub overflow_add-result-2 : goal.overflow_add-result-2
+overflow_add-result-2 k =
     add_fits w128 (gauge _ _ _ _ _ _ k.requires) (mul w128 (gap _ _ _ _ _ _ k.requires) (of_r _ _ _ _ _ _ k.requires) (lit< tt)) (lit< tt)
 
-pub overflow-mul-result-4 : goal.overflow-mul-result-4
-overflow-mul-result-4 k = mul_fits w128 (weight _ _ _ _ _ _ k.requires (of_r _ _ _ _ _ _ k.requires)) (of_g _ _ _ _ _ _ k.requires) (lit< tt)
+pub overflow_mul-result-4 : goal.overflow_mul-result-4
+overflow_mul-result-4 k = mul_fits w128 (weight _ _ _ _ _ _ k.requires (of_r _ _ _ _ _ _ k.requires)) (of_g _ _ _ _ _ _ k.requires) (lit< tt)
 
-pub overflow-add-result-3 : goal.overflow-add-result-3
-overflow-add-result-3 k =
+pub overflow_add-result-3 : goal.overflow_add-result-3
+overflow_add-result-3 k =
     add_fits w128 (mul w128 (weight _ _ _ _ _ _ k.requires (wide_n _ _ _ _ _ _ k.requires)) (of_m _ _ _ _ _ _ k.requires) (lit< tt)) (mul w128 (weight _ _ _ _ _ _ k.requires (of_r _ _ _ _ _ _ k.requires)) (of_g _ _ _ _ _ _ k.requires) (lit< tt)) (lit< tt)
 
 pub returns : goal.returns

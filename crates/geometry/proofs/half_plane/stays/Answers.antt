@@ -43,37 +43,37 @@ module _ (s e n : Vector) (d : ℤ) (in_s : lt_z d (dot n s) ≡ false) (in_e : 
     by_mirror t cuts i =
         cond (in_s i) false (cond (in_e i) false (cond (near i) (lt_z (pos 0) (cross s e)) (cond (cuts i) (lt_z (pos 0) (cross s n *ℤ side s e n d)) true)))
 
-pub overflow-add-at-start : goal.overflow-add-at-start
-overflow-add-at-start c = add_fits w128 (at_start c.requires c.dot-at-start.ensures.value) (limit c.requires) (lit< tt)
+pub overflow_add-at_start : goal.overflow_add-at_start
+overflow_add-at_start c = add_fits w128 (at_start c.requires c.dot-at_start.ensures.value) (limit c.requires) (lit< tt)
 
-pub returns-then-at-start-d-lt0 : goal.returns-then-at-start-d-lt0
-returns-then-at-start-d-lt0 c =
-    let S = at_start c.requires c.dot-at-start.ensures.value in
-    let E = at_end_lem c.requires c.dot-at-end.ensures.value in
+pub returns-then-at_start-d-lt0 : goal.returns-then-at_start-d-lt0
+returns-then-at_start-d-lt0 c =
+    let S = at_start c.requires c.dot-at_start.ensures.value in
+    let E = at_end_lem c.requires c.dot-at_end.ensures.value in
     let D = limit c.requires in
-    let in_s = tested D.is S.is c.if-at-start-d.false in
-    let in_e = tested D.is E.is c.if-at-end-d.false in
-    let far = tested (add w128 S D (lit< tt)).is refl c.if-at-start-d-lt0.true in
-    record { value = ap (λ (z : ℤ). lt_z (pos 0) z) (returned w128 c.cross.type-inv c.cross.ensures.value).is ∙ sym (by_opposite c.args.s c.args.e c.args.n c.args.d in_s in_e far) }
+    let in_s = tested D.is S.is c.if-at_start-d.false in
+    let in_e = tested D.is E.is c.if-at_end-d.false in
+    let far = tested (add w128 S D (lit< tt)).is refl c.if-at_start-d-lt0.true in
+    record { value = ap (λ (z : ℤ). lt_z (pos 0) z) (returned w128 c.cross.type_inv c.cross.ensures.value).is ∙ sym (by_opposite c.args.s c.args.e c.args.n c.args.d in_s in_e far) }
 
-pub overflow-mul-d : goal.overflow-mul-d
-overflow-mul-d c = mul_fits w128 (limit c.requires) (limit c.requires) (lit< tt)
+pub overflow_mul-d : goal.overflow_mul-d
+overflow_mul-d c = mul_fits w128 (limit c.requires) (limit c.requires) (lit< tt)
 
-pub overflow-mul-radius : goal.overflow-mul-radius
-overflow-mul-radius c = mul_fits w128 (radius c.requires c.dot-radius.ensures.value) (slope c.requires c.dot-slope.ensures.value) (lit< tt)
+pub overflow_mul-radius : goal.overflow_mul-radius
+overflow_mul-radius c = mul_fits w128 (radius c.requires c.dot-radius.ensures.value) (slope c.requires c.dot-slope.ensures.value) (lit< tt)
 
-pub overflow-sub-dot : goal.overflow-sub-dot
-overflow-sub-dot c = sub_fits w128 (ahead c.requires c.dot.ensures.value) (radius c.requires c.dot-radius.ensures.value) (lit< tt)
+pub overflow_sub-dot : goal.overflow_sub-dot
+overflow_sub-dot c = sub_fits w128 (ahead c.requires c.dot.ensures.value) (radius c.requires c.dot-radius.ensures.value) (lit< tt)
 
-pub overflow-sub-at-end : goal.overflow-sub-at-end
-overflow-sub-at-end c = sub_fits w128 (at_end_lem c.requires c.dot-at-end.ensures.value) (at_start c.requires c.dot-at-start.ensures.value) (lit< tt)
+pub overflow_sub-at_end : goal.overflow_sub-at_end
+overflow_sub-at_end c = sub_fits w128 (at_end_lem c.requires c.dot-at_end.ensures.value) (at_start c.requires c.dot-at_start.ensures.value) (lit< tt)
 
 pub side-mirrored-requires : goal.side-mirrored-requires
 side-mirrored-requires c =
     let R = radius c.requires c.dot-radius.ensures.value in
     let N = slope c.requires c.dot-slope.ensures.value in
-    let S = at_start c.requires c.dot-at-start.ensures.value in
-    let E = at_end_lem c.requires c.dot-at-end.ensures.value in
+    let S = at_start c.requires c.dot-at_start.ensures.value in
+    let E = at_end_lem c.requires c.dot-at_end.ensures.value in
     let M = sub w128 (ahead c.requires c.dot.ensures.value) R (lit< tt) in
     let G = sub w128 E S (lit< tt) in
     record { of_r = computed R; of_n = computed N; of_c = computed S; of_d = computed (limit c.requires); of_m = computed M; of_g = computed G }
@@ -82,28 +82,28 @@ pub returns-then-d-radius : goal.returns-then-d-radius
 returns-then-d-radius c =
     let R = radius c.requires c.dot-radius.ensures.value in
     let N = slope c.requires c.dot-slope.ensures.value in
-    let S = at_start c.requires c.dot-at-start.ensures.value in
-    let E = at_end_lem c.requires c.dot-at-end.ensures.value in
+    let S = at_start c.requires c.dot-at_start.ensures.value in
+    let E = at_end_lem c.requires c.dot-at_end.ensures.value in
     let D = limit c.requires in
     let M = sub w128 (ahead c.requires c.dot.ensures.value) R (lit< tt) in
     let G = sub w128 E S (lit< tt) in
-    let in_s = tested D.is S.is c.if-at-start-d.false in
-    let in_e = tested D.is E.is c.if-at-end-d.false in
-    let near = tested (add w128 S D (lit< tt)).is refl c.if-at-start-d-lt0.false in
+    let in_s = tested D.is S.is c.if-at_start-d.false in
+    let in_e = tested D.is E.is c.if-at_end-d.false in
+    let near = tested (add w128 S D (lit< tt)).is refl c.if-at_start-d-lt0.false in
     let cuts = tested (mul w128 D D (lit< tt)).is (mul w128 R N (lit< tt)).is c.if-d-radius.true in
-    let across = (returned w128 c.cross-then-d-radius.type-inv c.cross-then-d-radius.ensures.value).is in
-    let mirrored = (returned w128 c.side-mirrored.type-inv (c.side-mirrored.ensures.value ∙ (λ i. side_of (R.is i) (N.is i) (S.is i) (D.is i) (M.is i) (G.is i)))).is in
-    record { value = c.product-is-positive.ensures.value ∙ ap₂ (λ (x y : ℤ). lt_z (pos 0) (x *ℤ y)) across mirrored ∙ sym (by_mirror c.args.s c.args.e c.args.n c.args.d in_s in_e near true cuts) }
+    let across = (returned w128 c.cross-then-d-radius.type_inv c.cross-then-d-radius.ensures.value).is in
+    let mirrored = (returned w128 c.side-mirrored.type_inv (c.side-mirrored.ensures.value ∙ (λ i. side_of (R.is i) (N.is i) (S.is i) (D.is i) (M.is i) (G.is i)))).is in
+    record { value = c.product_is_positive.ensures.value ∙ ap₂ (λ (x y : ℤ). lt_z (pos 0) (x *ℤ y)) across mirrored ∙ sym (by_mirror c.args.s c.args.e c.args.n c.args.d in_s in_e near true cuts) }
 
 pub returns : goal.returns
 returns c =
     let R = radius c.requires c.dot-radius.ensures.value in
     let N = slope c.requires c.dot-slope.ensures.value in
-    let S = at_start c.requires c.dot-at-start.ensures.value in
-    let E = at_end_lem c.requires c.dot-at-end.ensures.value in
+    let S = at_start c.requires c.dot-at_start.ensures.value in
+    let E = at_end_lem c.requires c.dot-at_end.ensures.value in
     let D = limit c.requires in
-    let in_s = tested D.is S.is c.if-at-start-d.false in
-    let in_e = tested D.is E.is c.if-at-end-d.false in
-    let near = tested (add w128 S D (lit< tt)).is refl c.if-at-start-d-lt0.false in
+    let in_s = tested D.is S.is c.if-at_start-d.false in
+    let in_e = tested D.is E.is c.if-at_end-d.false in
+    let near = tested (add w128 S D (lit< tt)).is refl c.if-at_start-d-lt0.false in
     let clear = tested (mul w128 D D (lit< tt)).is (mul w128 R N (lit< tt)).is c.if-d-radius.false in
     record { value = sym (by_mirror c.args.s c.args.e c.args.n c.args.d in_s in_e near false clear) }

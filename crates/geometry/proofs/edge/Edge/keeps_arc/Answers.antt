@@ -28,10 +28,10 @@ module _ (g : Edge) (a : Arc) (s : Axes ℤ) (ha : arc_in_range a ≡ true) (hs 
   slight : {n : Vector} → n ≡ flat a.plane g.normal → Short 100 n
   slight e = subst (λ (v : Vector). Short 100 v) (sym e) (flat_short 100 a.plane g.normal (edge_factors g.normal g.limit g.taken))
 
-pub overflow-sub-limit : goal.overflow-sub-limit
-overflow-sub-limit c =
+pub overflow_sub-limit : goal.overflow_sub-limit
+overflow_sub-limit c =
     let k = own c.args.self.now c.args.arc.now c.args.start.now c.requires.centre c.requires.start in
-    let m = at_centre c.args.self.now c.args.arc.now c.args.start.now c.requires.centre c.requires.start c.centre-rise.ensures.value in
+    let m = at_centre c.args.self.now c.args.arc.now c.args.start.now c.requires.centre c.requires.start c.centre_rise.ensures.value in
     sub_fits w128 k m (lit< tt)
 
 pub stays-requires : goal.stays-requires
@@ -40,7 +40,7 @@ stays-requires c =
       start = c.arm-from.ensures.size;
       end = c.arm-to.ensures.size;
       normal = slight c.args.self.now c.args.arc.now c.args.start.now c.requires.centre c.requires.start c.flat-normal.ensures.value;
-      limit = computed (from_centre c.args.self.now c.args.arc.now c.args.start.now c.requires.centre c.requires.start c.centre-rise.ensures.value);
+      limit = computed (from_centre c.args.self.now c.args.arc.now c.args.start.now c.requires.centre c.requires.start c.centre_rise.ensures.value);
     }
 
 pub stays-requires-in-Clockwise : goal.stays-requires-in-Clockwise
@@ -49,15 +49,15 @@ stays-requires-in-Clockwise c =
       start = c.arm-to.ensures.size;
       end = c.arm-from.ensures.size;
       normal = slight c.args.self.now c.args.arc.now c.args.start.now c.requires.centre c.requires.start c.flat-normal.ensures.value;
-      limit = computed (from_centre c.args.self.now c.args.arc.now c.args.start.now c.requires.centre c.requires.start c.centre-rise.ensures.value);
+      limit = computed (from_centre c.args.self.now c.args.arc.now c.args.start.now c.requires.centre c.requires.start c.centre_rise.ensures.value);
     }
 
 pub returns-in-Counterclockwise : goal.returns-in-Counterclockwise
 returns-in-Counterclockwise c =
-    let l = from_centre c.args.self.now c.args.arc.now c.args.start.now c.requires.centre c.requires.start c.centre-rise.ensures.value in
+    let l = from_centre c.args.self.now c.args.arc.now c.args.start.now c.requires.centre c.requires.start c.centre_rise.ensures.value in
     record { value = c.stays.ensures.value ∙ (λ i. stays (c.arm-from.ensures.value i) (c.arm-to.ensures.value i) (c.flat-normal.ensures.value i) (l.is i)) ∙ sym (ap (λ (t : Turn). turn_stays t (arm c.args.arc.now c.args.start.now) (arm c.args.arc.now c.args.end.now) (flat c.args.arc.now.plane c.args.self.now.normal) (c.args.self.now.limit -ℤ centre_rise c.args.arc.now c.args.start.now c.args.self.now.normal)) c.in-Counterclockwise.is) }
 
 pub returns-in-Clockwise : goal.returns-in-Clockwise
 returns-in-Clockwise c =
-    let l = from_centre c.args.self.now c.args.arc.now c.args.start.now c.requires.centre c.requires.start c.centre-rise.ensures.value in
+    let l = from_centre c.args.self.now c.args.arc.now c.args.start.now c.requires.centre c.requires.start c.centre_rise.ensures.value in
     record { value = c.stays-in-Clockwise.ensures.value ∙ (λ i. stays (c.arm-to.ensures.value i) (c.arm-from.ensures.value i) (c.flat-normal.ensures.value i) (l.is i)) ∙ sym (ap (λ (t : Turn). turn_stays t (arm c.args.arc.now c.args.start.now) (arm c.args.arc.now c.args.end.now) (flat c.args.arc.now.plane c.args.self.now.normal) (c.args.self.now.limit -ℤ centre_rise c.args.arc.now c.args.start.now c.args.self.now.normal)) c.in-Clockwise.is) }

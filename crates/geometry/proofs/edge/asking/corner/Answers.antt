@@ -20,7 +20,7 @@ returns c =
     let e = c.args.end.now in
     record {
       value = three
-          (one n.x s.x e.x (search rules) (search rules) (search rules) c.higher.type-inv c.higher.ensures.value)
-          (one n.y s.y e.y (search rules) (search rules) (search rules) c.higher-2.type-inv c.higher-2.ensures.value)
-          (one n.z s.z e.z (search rules) (search rules) (search rules) c.higher-3.type-inv c.higher-3.ensures.value);
+          (one n.x s.x e.x (search rules) (search rules) (search rules) c.higher.type_inv c.higher.ensures.value)
+          (one n.y s.y e.y (search rules) (search rules) (search rules) c.higher-2.type_inv c.higher-2.ensures.value)
+          (one n.z s.z e.z (search rules) (search rules) (search rules) c.higher-3.type_inv c.higher-3.ensures.value);
     }

@@ -3,8 +3,8 @@ use Rattle.motions.specs.Ranges.{present_within, position_range}
 use Rattle.geometry.proofs.InRange.{lower_within, upper_within}
 use Rattle.geometry.proofs.limit_box.LimitBox.keeps_axis.Goals as goal
 
-pub keeps-lower-requires : goal.keeps-lower-requires
-keeps-lower-requires c =
+pub keeps_lower-requires : goal.keeps_lower-requires
+keeps_lower-requires c =
     record {
       limit = subst (λ (o : Option ℤ). present_within position_range o ≡ true) (sym c.along.ensures.value) (lower_within c.args.self.now.limits c.args.axis c.args.self.now.taken);
       row = c.requires;
@@ -13,6 +13,6 @@ keeps-lower-requires c =
 pub keeps-upper-requires-then-keeps-lower : goal.keeps-upper-requires-then-keeps-lower
 keeps-upper-requires-then-keeps-lower c =
     record {
-      limit = subst (λ (o : Option ℤ). present_within position_range o ≡ true) (sym c.along-then-keeps-lower.ensures.value) (upper_within c.args.self.now.limits c.args.axis c.args.self.now.taken);
+      limit = subst (λ (o : Option ℤ). present_within position_range o ≡ true) (sym c.along-then-keeps_lower.ensures.value) (upper_within c.args.self.now.limits c.args.axis c.args.self.now.taken);
       row = c.requires;
     }

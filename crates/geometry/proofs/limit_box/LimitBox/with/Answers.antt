@@ -27,7 +27,7 @@ stays_taken upper a o l h all =
       | true ↦ and_from _ _ p.0 (side a o l.upper h p.1)
     ]
 
-pub invariant-of-result : goal.invariant-of-result
-invariant-of-result c =
-    let fits : present_within position_range c.args.limit ≡ true = sym c.present-within.ensures.value ∙ c.if-not-present-within.false in
-    (ap box_taken c.with-limit-limits.ensures.value ∙ stays_taken c.args.upper c.args.axis c.args.limit c.args.self.now.limits fits c.args.self.now.taken, tt)
+pub invariant_of-result : goal.invariant_of-result
+invariant_of-result c =
+    let fits : present_within position_range c.args.limit ≡ true = sym c.present_within.ensures.value ∙ c.if-not-present_within.false in
+    (ap box_taken c.with_limit-limits.ensures.value ∙ stays_taken c.args.upper c.args.axis c.args.limit c.args.self.now.limits fits c.args.self.now.taken, tt)

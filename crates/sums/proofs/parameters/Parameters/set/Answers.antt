@@ -18,9 +18,9 @@ same_twice : (b : Bool) (s l : List ℤ) → s ≡ l → l ≡ cond b s l
 same_twice true s l e = sym e
 same_twice false s l e = refl
 
-pub invariant-of-self : goal.invariant-of-self
-invariant-of-self c =
-    (stay_ranged c.args.self.now.values c.args.k _ c.args.self.now.ranged (sym c.if-in-range.ensures.value), tt)
+pub invariant_of-self : goal.invariant_of-self
+invariant_of-self c =
+    (stay_ranged c.args.self.now.values c.args.k _ c.args.self.now.ranged (sym c.if-in_range.ensures.value), tt)
 
 pub returns-then-k-ge-PARAMETERS : goal.returns-then-k-ge-PARAMETERS
 returns-then-k-ge-PARAMETERS c =
