@@ -10,7 +10,7 @@ use Rattle.lexer.specs.declared.symbols.Letter.{Letter}
 use Rattle.lexer.specs.declared.symbols.Letter.TheVariants.{X, Y, Z, I, J, K, F, S, T, M, G, N, R, P, Other}
 use Rattle.forms.specs.Groups.{with_g, no_group}
 use Rattle.sums.specs.Sums.{◌>>=◌}
-use Rattle.motions.specs.declared.axes.Axis.TheVariants as on
+use Rattle.forms.specs.declared.said.Axis.TheVariants as on
 use Rattle.forms.specs.declared.kinds.Kind.{Kind}
 use Rattle.forms.specs.declared.kinds.Kind.TheVariants.{Axis as OfAxis, Centre as OfCentre, Feed as OfFeed, Speed as OfSpeed, Tool as OfTool, Action as OfAction, Function as OfFunction, Nothing as NoWord}
 use Rattle.forms.specs.declared.kinds.Command.{Command}

@@ -4,11 +4,10 @@ ghost use Rattle.std.specs.Char.{to_ascii_lowercase};
 ghost use Rattle.lexer.specs.Model.{num_is};
 ghost use Rattle.forms.specs.Kinds.{kind_of, command_of, function_of};
 
-use crate::said::Groups;
+use crate::said::{Axis, Groups};
 use lexer::number::Number;
 use lexer::symbols::Letter;
 use lexer::token::Name;
-use motions::axes::Axis;
 
 /// What kind of word a letter opens.
 #[derive(Clone, Copy)]

@@ -1,6 +1,13 @@
 //! What a line says, as data. `V` is what the value of an axis is held as, and `N` what a name is held as:
 //! the code holds both by their places in the text, and the definitions hold them whole.
-use motions::axes::{Axes, Axis};
+
+/// A machine axis.
+#[derive(Clone, Copy)]
+pub enum Axis {
+    X,
+    Y,
+    Z,
+}
 
 /// A name's place in the text: where it begins, and how many bytes it has.
 #[derive(Clone, Copy)]
@@ -38,12 +45,20 @@ pub struct Groups {
     pub g94: bool,
 }
 
+/// What belongs to each of the three axes, if anything does.
+#[derive(Clone, Copy)]
+pub struct Axes<V> {
+    pub x: Option<V>,
+    pub y: Option<V>,
+    pub z: Option<V>,
+}
+
 /// The words of a line, each address at most once.
 #[derive(Clone, Copy)]
 pub struct Words<V> {
     pub groups: Groups,
-    pub axes: Axes<Option<V>>,
-    pub centres: Axes<Option<V>>,
+    pub axes: Axes<V>,
+    pub centres: Axes<V>,
     pub feed: Option<u64>,
     pub speed: Option<u64>,
     pub tool: Option<u32>,
@@ -92,13 +107,13 @@ pub enum Statement<V, N> {
     /// G25 sets the lower limits, G26 the upper ones.
     Limits {
         upper: bool,
-        axes: Axes<Option<V>>,
+        axes: Axes<V>,
     },
     Dwell(Pause),
     /// TRANS sets the shift, ATRANS adds to it.
     Shift {
         adds: bool,
-        axes: Axes<Option<V>>,
+        axes: Axes<V>,
     },
     Assign {
         parameter: u32,

@@ -9,7 +9,6 @@ use crate::kinds::{Command, Kind};
 use crate::parts::{forward, name, pause, target, test_at, times};
 use crate::said::{Place, Statement, Test};
 use crate::word::{at_end, words};
-use crate::words::some_axis;
 use lexer::number::Number;
 use lexer::scan::token;
 use lexer::symbols::{Letter, Mark};
@@ -43,7 +42,7 @@ fn limits(line: &[u8], at: usize, upper: bool) -> Option<Statement<Value, Place>
     let axes = all.only_axes()?;
     Some(Statement::Limits {
         upper,
-        axes: some_axis(axes)?,
+        axes: axes.some()?,
     })
 }
 

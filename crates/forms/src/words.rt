@@ -2,47 +2,48 @@
 ghost use Rattle.std.specs.Prelude.{◌≡◌};
 ghost use Rattle.forms.specs.Words.{no_axes, no_words, on_axis, entered, no_axis, no_numbered, only_axes, some_axis};
 
-use crate::said::{Groups, Word, Words};
-use motions::axes::{Axes, Axis};
+use crate::said::{Axes, Axis, Groups, Word, Words};
 use sums::value::Value;
 
-/// No axis has anything.
-fn no_axes() -> Axes<Option<Value>>
-    ensures value { result ≡ no_axes }
-{
-    Axes {
-        x: None,
-        y: None,
-        z: None,
+impl Axes<Value> {
+    /// No axis has anything.
+    fn none() -> Axes<Value>
+        ensures value { result ≡ no_axes }
+    {
+        Axes {
+            x: None,
+            y: None,
+            z: None,
+        }
     }
-}
 
-/// These and a value for one axis, if it has none yet.
-fn on_axis(axis: Axis, v: Value, axes: Axes<Option<Value>>) -> Option<Axes<Option<Value>>>
-    ensures value { result ≡ on_axis axis v axes }
-{
-    let mut a = axes;
-    match axis {
-        Axis::X if a.x.is_none() => a.x = Some(v),
-        Axis::Y if a.y.is_none() => a.y = Some(v),
-        Axis::Z if a.z.is_none() => a.z = Some(v),
-        _ => return None,
+    /// These and a value for one axis, if it has none yet.
+    fn with(self, axis: Axis, v: Value) -> Option<Axes<Value>>
+        ensures value { result ≡ on_axis axis v self }
+    {
+        let mut a = self;
+        match axis {
+            Axis::X if a.x.is_none() => a.x = Some(v),
+            Axis::Y if a.y.is_none() => a.y = Some(v),
+            Axis::Z if a.z.is_none() => a.z = Some(v),
+            _ => return None,
+        }
+        Some(a)
     }
-    Some(a)
-}
 
-/// Whether no axis has anything.
-fn no_axis(axes: Axes<Option<Value>>) -> bool
-    ensures value { result ≡ no_axis axes }
-{
-    axes.x.is_none() && axes.y.is_none() && axes.z.is_none()
-}
+    /// Whether no axis has anything.
+    fn is_empty(self) -> bool
+        ensures value { result ≡ no_axis self }
+    {
+        self.x.is_none() && self.y.is_none() && self.z.is_none()
+    }
 
-/// These, if at least one axis has something.
-pub(crate) fn some_axis(axes: Axes<Option<Value>>) -> Option<Axes<Option<Value>>>
-    ensures value { result ≡ some_axis axes }
-{
-    if no_axis(axes) { None } else { Some(axes) }
+    /// These, if at least one axis has something.
+    pub(crate) fn some(self) -> Option<Axes<Value>>
+        ensures value { result ≡ some_axis self }
+    {
+        if self.is_empty() { None } else { Some(self) }
+    }
 }
 
 impl Words<Value> {
@@ -53,8 +54,8 @@ impl Words<Value> {
         let groups = Groups::none();
         Words {
             groups,
-            axes: no_axes(),
-            centres: no_axes(),
+            axes: Axes::none(),
+            centres: Axes::none(),
             feed: None,
             speed: None,
             tool: None,
@@ -70,8 +71,8 @@ impl Words<Value> {
         let mut s = self;
         match w {
             Word::Function(g) => s.groups = s.groups.with(g)?,
-            Word::Axis(a, v) => s.axes = on_axis(a, v, s.axes)?,
-            Word::Centre(a, v) => s.centres = on_axis(a, v, s.centres)?,
+            Word::Axis(a, v) => s.axes = s.axes.with(a, v)?,
+            Word::Centre(a, v) => s.centres = s.centres.with(a, v)?,
             Word::Feed(v) if s.feed.is_none() => s.feed = Some(v),
             Word::Speed(v) if s.speed.is_none() => s.speed = Some(v),
             Word::Tool(v) if s.tool.is_none() => s.tool = Some(v),
@@ -90,11 +91,11 @@ impl Words<Value> {
     }
 
     /// The axis words, if there are no others.
-    pub(crate) fn only_axes(self) -> Option<Axes<Option<Value>>>
+    pub(crate) fn only_axes(self) -> Option<Axes<Value>>
         ensures value { result ≡ only_axes self }
     {
         let g_free = self.groups.no_modal() && self.groups.no_flag();
-        if g_free && no_axis(self.centres) && self.no_numbered() && self.area.is_none() {
+        if g_free && self.centres.is_empty() && self.no_numbered() && self.area.is_none() {
             Some(self.axes)
         } else {
             None

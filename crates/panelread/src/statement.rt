@@ -1,7 +1,6 @@
 //! The canonical form of what a line says after its number and its label.
 use crate::pieces::Listing;
-use forms::said::{Comparison, Groups, Pause, Place, Statement, Target, Test, Words};
-use motions::axes::Axes;
+use forms::said::{Axes, Comparison, Groups, Pause, Place, Statement, Target, Test, Words};
 use std::io;
 use sums::value::Value;
 
@@ -105,7 +104,7 @@ fn functions(listing: &mut Listing<'_>, groups: Groups) -> io::Result<()> {
     Ok(())
 }
 
-fn axis_words(listing: &mut Listing<'_>, axes: Axes<Option<Value>>) -> io::Result<()> {
+fn axis_words(listing: &mut Listing<'_>, axes: Axes<Value>) -> io::Result<()> {
     for (letter, value) in [('X', axes.x), ('Y', axes.y), ('Z', axes.z)] {
         if let Some(value) = value {
             listing.value(letter, value)?;
@@ -114,7 +113,7 @@ fn axis_words(listing: &mut Listing<'_>, axes: Axes<Option<Value>>) -> io::Resul
     Ok(())
 }
 
-fn centre_words(listing: &mut Listing<'_>, centres: Axes<Option<Value>>) -> io::Result<()> {
+fn centre_words(listing: &mut Listing<'_>, centres: Axes<Value>) -> io::Result<()> {
     for (letter, value) in [('I', centres.x), ('J', centres.y), ('K', centres.z)] {
         if let Some(value) = value {
             listing.value(letter, value)?;

@@ -20,7 +20,7 @@ same_twice false s l e = refl
 
 pub invariant_of-self : goal.invariant_of-self
 invariant_of-self c =
-    (stay_ranged c.args.self.now.values c.args.k _ c.args.self.now.ranged (sym c.if-in_range.ensures.value), tt)
+    record { ranged = stay_ranged c.args.self.now.values c.args.k _ c.args.self.now.ranged (sym c.if-in_range.ensures.value) }
 
 pub returns-then-k-ge-PARAMETERS : goal.returns-then-k-ge-PARAMETERS
 returns-then-k-ge-PARAMETERS c =
