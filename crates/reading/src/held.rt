@@ -1,10 +1,15 @@
 //! What a program holds.
-ghost use Rattle.std.specs.Prelude.{◌≡◌, ◌≤◌, length};
+ghost use Rattle.std.specs.Prelude.{◌≡◌, ◌≤◌, length, take, pos, Some};
 ghost use Rattle.std.specs.Option.{option_map};
+ghost use Rattle.sums.specs.Sums.{total};
+ghost use Rattle.sums.specs.Model.{Ranged, value_is};
 ghost use Rattle.forms.specs.Numbered.{numbered};
 ghost use Rattle.reading.specs.Reading.{said, held_text, held_lines};
 
 use crate::program::{Held, Program};
+use sums::parameters::Parameters;
+use sums::reading::worth;
+use sums::value::Value;
 
 impl<'t> Program<'t> {
     /// The text that was read.
@@ -30,5 +35,14 @@ impl<'t> Program<'t> {
             return None;
         }
         Some(self.lines[number - 1])
+    }
+    /// What a value that a line holds is worth, in thousandths; nothing where a partial result is beyond the range.
+    pub fn worth(&self, line: Held, v: Value, params: &Parameters) -> Option<i64>
+        ensures value { result ≡ total params.now.values (Some (pos 0)) (value_is (take line.end (held_text self.now)) v) }
+        ensures ranged { Ranged result }
+    {
+        let text = self.text;
+        let end = line.end.min(text.len());
+        worth(&text[0..end], v, params)
     }
 }
