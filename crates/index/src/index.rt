@@ -40,16 +40,16 @@ impl<'a, K: Key> Index<'a, K> {
 
     /// The nearest line above `line` that was entered under the key.
     pub fn after(&self, text: &[u8], key: &K, line: usize) -> Option<usize>
-        ensures value { result ≡ nearest_after line (lines_with (same text.now) key.now (take self.now.used self.now.room.now)) }
-        ensures nearest { NearestAfter line (lines_with (same text.now) key.now (take self.now.used self.now.room.now)) result }
+        ensures value { result ≡ nearest_after line (lines_with (K.same text.now) key.now (take self.now.used self.now.room.now)) }
+        ensures nearest { NearestAfter line (lines_with (K.same text.now) key.now (take self.now.used self.now.room.now)) result }
     {
         nearest_after(self.entries(), text, key, line)
     }
 
     /// The nearest line at or before `line` that was entered under the key.
     pub fn up_to(&self, text: &[u8], key: &K, line: usize) -> Option<usize>
-        ensures value { result ≡ nearest_up_to line (lines_with (same text.now) key.now (take self.now.used self.now.room.now)) }
-        ensures nearest { NearestUpTo line (lines_with (same text.now) key.now (take self.now.used self.now.room.now)) result }
+        ensures value { result ≡ nearest_up_to line (lines_with (K.same text.now) key.now (take self.now.used self.now.room.now)) }
+        ensures nearest { NearestUpTo line (lines_with (K.same text.now) key.now (take self.now.used self.now.room.now)) result }
     {
         nearest_up_to(self.entries(), text, key, line)
     }

@@ -33,7 +33,7 @@ pub(crate) fn nearest_after<K: Key>(
     key: &K,
     line: usize,
 ) -> Option<usize>
-    ensures value { result ≡ nearest_after line (lines_with (same text.now) key.now entries.now) }
+    ensures value { result ≡ nearest_after line (lines_with (K.same text.now) key.now entries.now) }
 {
     let mut found = None;
     for e in entries {
@@ -51,7 +51,7 @@ pub(crate) fn nearest_up_to<K: Key>(
     key: &K,
     line: usize,
 ) -> Option<usize>
-    ensures value { result ≡ nearest_up_to line (lines_with (same text.now) key.now entries.now) }
+    ensures value { result ≡ nearest_up_to line (lines_with (K.same text.now) key.now entries.now) }
 {
     let mut found = None;
     for e in entries {
