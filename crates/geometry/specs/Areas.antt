@@ -2,7 +2,7 @@
 --     Inside C m         every point of m is in C
 --     Outside C m        a point of m that is not in C
 --     Answered r C m     the answer r to whether m lies in C: yes with Inside, no with Outside
---     rise n t           n .x .X + n.y.Y + n.z.Z, at t's values for X, Y and Z
+--     rise n t           n.x·X + n.y·Y + n.z·Z, at t's values for X, Y and Z
 --     InEdge n d         the points at which that is at most d: all that lies on one side of a plane, the plane counted
 --     InBox l            the points from the lower to the upper limit of each axis, limits counted
 -- A coordinate of p is z / q with q its denominator, so each limit is compared at q times its size.

@@ -7,7 +7,7 @@ use motions::axes::Axes;
 pub mod asking;
 mod making;
 
-/// The points with typeof.a.X + typeof.b.Y + typeof.c.Z ≤ d: `normal` has a, b and c, not all 0, and `limit` is d.
+/// The points with a·X + b·Y + c·Z ≤ d: `normal` has a, b and c, not all 0, and `limit` is d.
 #[derive(Clone, Copy, Drop)]
 pub struct Edge {
     normal: Axes<i32>,

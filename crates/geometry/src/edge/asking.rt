@@ -16,7 +16,7 @@ use motions::axes::{Axes, Position};
 use motions::motion::Motion;
 use motions::row::{Arc, PathKind, Row, Turn};
 
-/// typeof.a.X + typeof.b.Y + typeof.c.Z at a position.
+/// a·X + b·Y + c·Z at a position.
 fn rise(normal: &Axes<i32>, at: &Position) -> i128
     ensures value { result ≡ rise_of normal.now at.now }
 {

@@ -47,7 +47,7 @@ fn unit(axis: Axis, factor: i32) -> Axes<i32>
 }
 
 impl Edge {
-    /// The edge typeof.a.X + typeof.b.Y + typeof.c.Z ≤ limit, where `normal` has a, b and c; refused where a number is out of range or all three are 0.
+    /// The edge a·X + b·Y + c·Z ≤ limit, where `normal` has a, b and c; refused where a number is out of range or all three are 0.
     pub fn new(normal: Axes<i32>, limit: i32) -> Result<Edge, Refusal>
         ensures value { Taken (edge_taken normal limit) (λ e. (normal_of e ≡ normal) × (limit_of e ≡ limit)) result }
     {

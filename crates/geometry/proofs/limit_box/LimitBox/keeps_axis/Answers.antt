@@ -10,8 +10,8 @@ keeps_lower-requires c =
       row = c.requires;
     }
 
-pub keeps-upper-requires-then-keeps-lower : goal.keeps-upper-requires-then-keeps-lower
-keeps-upper-requires-then-keeps-lower c =
+pub keeps_upper-requires : goal.keeps_upper-requires
+keeps_upper-requires c =
     record {
       limit = subst (λ (o : Option ℤ). present_within position_range o ≡ true) (sym c.along-then-keeps_lower.ensures.value) (upper_within c.args.self.now.limits c.args.axis c.args.self.now.taken);
       row = c.requires;

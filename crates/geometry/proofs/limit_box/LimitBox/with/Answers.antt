@@ -30,4 +30,4 @@ stays_taken upper a o l h all =
 pub invariant_of-result : goal.invariant_of-result
 invariant_of-result c =
     let fits : present_within position_range c.args.limit ≡ true = sym c.present_within.ensures.value ∙ c.if-not-present_within.false in
-    (ap box_taken c.with_limit-limits.ensures.value ∙ stays_taken c.args.upper c.args.axis c.args.limit c.args.self.now.limits fits c.args.self.now.taken, tt)
+    record { taken = ap box_taken c.with_limit-limits.ensures.value ∙ stays_taken c.args.upper c.args.axis c.args.limit c.args.self.now.limits fits c.args.self.now.taken }
