@@ -2,7 +2,7 @@
 --     keeps_told      the test of a half space
 --     box_told        the test of a box: six half spaces, one for each limit that is there
 --     both, likewise  two answers make that for the points in both sets
-use Rattle.std.proofs.Common.{◌≡◌, Bool, true, false, ◌&&◌, [], ◌∷◌, ℤ, pos, negsuc, ◌+ℤ◌, ◌-ℤ◌, ◌*ℤ◌, neg_ℤ, ◌≤ℤ◌, Some, None, MatchBool, Option, sym, refl, ap, ◌∙◌, subst, arith}
+use Rattle.std.proofs.Common.{◌≡◌, Bool, true, false, ◌&&◌, [], ◌∷◌, ℤ, pos, negsuc, ◌-ℤ◌, ◌*ℤ◌, neg_ℤ, ◌≤ℤ◌, Some, None, MatchBool, Option, ap, ◌∙◌, arith}
 use Rattle.std.proofs.lemmas.Int.{ints}
 use Rattle.algebra.proofs.Polynomials.{num, var, ◌⊕◌, ◌⊖◌, ◌⊗◌, identity}
 use Rattle.motions.specs.declared.axes.Axis.{Axis}
@@ -16,7 +16,7 @@ use Rattle.motions.specs.Axes.{coordinate}
 use Rattle.motions.specs.Motions.{kind_closes, keeps_arc_rule}
 use Rattle.geometry.specs.Points.{Point}
 use Rattle.geometry.specs.Paths.{OnKind}
-use Rattle.geometry.specs.Areas.{Inside, Outside, Answered, rise, InEdge, AtLeast, AtMost, InBox}
+use Rattle.geometry.specs.Areas.{Outside, Answered, rise, InEdge, AtLeast, AtMost, InBox}
 use Rattle.geometry.specs.Deciding.{keeps_kind, keeps, unit, keeps_lower, keeps_upper, keeps_axis, keeps_box}
 use Rattle.geometry.proofs.Straight.{All, Some as SomeOver, line_told, rapid_told}
 use Rattle.geometry.proofs.Lift.{arc_told_in}

@@ -3,15 +3,15 @@
 --     by_plane, view_rise      what n rises to at p, by the plane's axes, and from the view
 --     onto, off           a point of the arc in space is one of the arc in the plane, and back
 --     lifted              the point of space with a given view
-use Rattle.std.proofs.Common.{◌≡◌, ℕ, zero, suc, ◌<◌, Bool, true, false, ◌&&◌, [], ◌∷◌, ℤ, pos, negsuc, ◌+ℤ◌, ◌-ℤ◌, ◌*ℤ◌, ◌≤ℤ◌, ◌<ℤ◌, MatchBool, sym, refl, ap, ◌∙◌, subst, subst₂, arith}
+use Rattle.std.proofs.Common.{◌≡◌, ℕ, zero, suc, ◌<◌, Bool, true, false, [], ◌∷◌, ℤ, pos, negsuc, ◌+ℤ◌, ◌-ℤ◌, ◌*ℤ◌, ◌≤ℤ◌, ◌<ℤ◌, MatchBool, sym, refl, ap, ◌∙◌, subst, subst₂, arith}
 use Rattle.std.proofs.lemmas.Int.{ints}
 use Rattle.std.proofs.lemmas.Bool.{and_parts}
 use Rattle.algebra.specs.declared.vector.Vector.{Vector}
 use Rattle.algebra.specs.Plane.{dot, cross, ◌−◌, scaled, OnArc as OnFlat, Within, Beyond, stays}
-use Rattle.algebra.proofs.Polynomials.{Expr, num, var, ◌⊕◌, ◌⊖◌, ◌⊗◌, identity}
+use Rattle.algebra.proofs.Polynomials.{var, ◌⊕◌, ◌⊖◌, ◌⊗◌, identity}
 use Rattle.algebra.proofs.Products.{≡-≤}
 use Rattle.algebra.proofs.Tests.{same_is}
-use Rattle.algebra.proofs.Vectors.{VecE, cross_e, ◌−E◌, scaled_e, v₀, v₁, v₂, v₃}
+use Rattle.algebra.proofs.Vectors.{cross_e, ◌−E◌, scaled_e, v₀, v₁, v₂, v₃}
 use Rattle.algebra.proofs.Arc.{arc_told}
 use Rattle.motions.specs.declared.axes.Axes.{Axes}
 use Rattle.motions.specs.declared.axes.Plane.{Plane}
@@ -19,11 +19,11 @@ use Rattle.motions.specs.declared.axes.Plane.TheVariants.{XY, ZX, YZ}
 use Rattle.motions.specs.declared.row.Turn.{Turn}
 use Rattle.motions.specs.declared.row.Turn.TheVariants.{Counterclockwise, Clockwise}
 use Rattle.motions.specs.declared.row.Arc.{Arc}
-use Rattle.motions.specs.Axes.{coordinate, u_axis, v_axis, w_axis, flat}
+use Rattle.motions.specs.Axes.{coordinate, w_axis, flat}
 use Rattle.motions.specs.Motions.{arm, square, level, closes}
 use Rattle.geometry.specs.Points.{Point}
 use Rattle.geometry.specs.Paths.{RightOf, OnTurn, OnArc}
-use Rattle.geometry.specs.Areas.{rise, InEdge}
+use Rattle.geometry.specs.Areas.{rise}
 use Rattle.geometry.specs.Deciding.{centre_rise, turn_stays}
 use Rattle.geometry.proofs.Straight.{All, Some}
 

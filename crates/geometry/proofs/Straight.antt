@@ -1,12 +1,11 @@
 -- Lines and rapids against a half space. Assumes nothing.
-use Rattle.std.proofs.Common.{◌≡◌, ℕ, ◌+◌, ◌-◌, ◌<◌, ◌≤◌, Bool, true, false, cond, ◌&&◌, [], ◌∷◌, ℤ, pos, ◌+ℤ◌, ◌-ℤ◌, ◌*ℤ◌, ◌≤ℤ◌, ◌<ℤ◌, MatchBool, sym, refl, ap, ◌∙◌, subst, arith, lit<, lit≤}
+use Rattle.std.proofs.Common.{◌≡◌, ℕ, ◌-◌, ◌<◌, ◌≤◌, Bool, true, false, cond, ◌&&◌, [], ◌∷◌, ℤ, pos, ◌+ℤ◌, ◌-ℤ◌, ◌*ℤ◌, ◌≤ℤ◌, ◌<ℤ◌, MatchBool, refl, ap, ◌∙◌, arith, lit<, lit≤}
 use lib.Signed.{lt_z, le_z}
 use Rattle.std.specs.Int.{int_max, int_min}
 use Rattle.std.proofs.lemmas.Int.{ints, clamps}
 use Rattle.algebra.proofs.Polynomials.{num, var, ◌⊕◌, ◌⊖◌, ◌⊗◌, identity}
-use Rattle.algebra.proofs.Products.{≡-≤, ≤-≡, mul-≤, cancel-≤, no_both}
+use Rattle.algebra.proofs.Products.{≡-≤, ≤-≡, mul-≤, cancel-≤}
 use Rattle.algebra.proofs.Tests.{at_most, and_told}
-use Rattle.motions.specs.declared.axes.Axis.{Axis}
 use Rattle.motions.specs.declared.axes.Axis.TheVariants.{X, Y, Z}
 use Rattle.motions.specs.declared.axes.Axes.{Axes}
 use Rattle.motions.specs.Axes.{coordinate}

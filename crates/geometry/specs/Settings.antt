@@ -3,7 +3,7 @@
 --     box_taken l        limits of a box: each that is there in range
 --     replaced a v t     t with v for the axis a
 --     with_limit upper a o l  the limits l with o as the upper, or else the lower one of the axis a
-use Rattle.std.specs.Prelude.{ℕ, zero, suc, Bool, true, false, not, ◌&&◌, ℤ, pos, negsuc, Option}
+use Rattle.std.specs.Prelude.{zero, suc, Bool, true, false, not, ◌&&◌, ℤ, pos, negsuc, Option}
 use Rattle.motions.specs.declared.axes.Axis.{Axis}
 use Rattle.motions.specs.declared.axes.Axis.TheVariants.{X, Y, Z}
 use Rattle.motions.specs.declared.axes.Axes.{Axes}

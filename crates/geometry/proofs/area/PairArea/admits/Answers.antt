@@ -1,4 +1,4 @@
-use Rattle.std.proofs.Common.{◌≡◌, Bool, true, false, sym, subst}
+use Rattle.std.proofs.Common.{Bool, true, sym, subst}
 use Rattle.geometry.specs.Areas.{Answered}
 use Rattle.motions.specs.Model.{row_of}
 use Rattle.geometry.specs.Points.{Point}

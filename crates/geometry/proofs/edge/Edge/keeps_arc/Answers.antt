@@ -1,4 +1,4 @@
-use Rattle.std.proofs.Common.{◌≡◌, Bool, true, ℤ, ◌-ℤ◌, sym, ap, ◌∙◌, subst, lit<, w32}
+use Rattle.std.proofs.Common.{◌≡◌, true, ℤ, ◌-ℤ◌, sym, ap, ◌∙◌, subst, lit<, w32}
 use mir.Syntax.{w128}
 use Rattle.algebra.specs.declared.vector.Vector.{Vector}
 use Rattle.algebra.specs.Plane.{stays}
@@ -11,7 +11,7 @@ use Rattle.motions.specs.declared.row.Turn.{Turn}
 use Rattle.motions.specs.Axes.{flat}
 use Rattle.geometry.specs.Deciding.{centre_rise, turn_stays}
 use Rattle.motions.specs.Motions.{arm, arc_in_range}
-use Rattle.motions.specs.Ranges.{each_within, position_range, factor_range}
+use Rattle.motions.specs.Ranges.{each_within, position_range}
 use Rattle.geometry.proofs.InRange.{edge_factors, edge_limit, flat_short, centre_rise_bounded}
 use Rattle.geometry.proofs.edge.Edge.keeps_arc.Goals as goal
 

@@ -1,4 +1,4 @@
-use Rattle.std.proofs.Common.{ℤ, ap, lit<, w32}
+use Rattle.std.proofs.Common.{ap, lit<, w32}
 use Rattle.algebra.specs.declared.vector.Vector.{Vector}
 use Rattle.algebra.proofs.Bounded.{given, cast, sub, computed}
 use Rattle.algebra.proofs.Vectors.{same_vector}
