@@ -1,8 +1,8 @@
 -- An arc in space against a half space: seen in its plane, from its centre, it is an arc about the origin against a half plane. Assumes nothing.
---     view a p            p seen from the centre of a in the plane of a, times the denominator of p
---     by_plane, view_rise      what n rises to at p, by the plane's axes, and from the view
---     onto, off           a point of the arc in space is one of the arc in the plane, and back
---     lifted              the point of space with a given view
+--     view a p               p seen from the centre of a in the plane of a, times the denominator of p
+--     by_plane, view_rise    what n rises to at p, by the plane's axes, and from the view
+--     onto, off              a point of the arc in space is one of the arc in the plane, and back
+--     lifted                 the point of space with a given view
 use Rattle.std.proofs.Common.{◌≡◌, ℕ, zero, suc, ◌<◌, Bool, true, false, [], ◌∷◌, ℤ, pos, negsuc, ◌+ℤ◌, ◌-ℤ◌, ◌*ℤ◌, ◌≤ℤ◌, ◌<ℤ◌, MatchBool, sym, refl, ap, ◌∙◌, subst, subst₂, arith}
 use Rattle.std.proofs.lemmas.Int.{ints}
 use Rattle.std.proofs.lemmas.Bool.{and_parts}

@@ -1,8 +1,8 @@
 -- Which settings of an area are taken. Assumes nothing.
---     edge_taken n d     factors and limit of an edge: each in range, and some factor not 0
---     box_taken l        limits of a box: each that is there in range
---     replaced a v t     t with v for the axis a
---     with_limit upper a o l  the limits l with o as the upper, or else the lower one of the axis a
+--     edge_taken n d            factors and limit of an edge: each in range, and some factor not 0
+--     box_taken l               limits of a box: each that is there in range
+--     replaced a v t            t with v for the axis a
+--     with_limit upper a o l    the limits l with o as the upper, or else the lower one of the axis a
 use Rattle.std.specs.Prelude.{zero, suc, Bool, true, false, not, ◌&&◌, ℤ, pos, negsuc, Option}
 use Rattle.motions.specs.declared.axes.Axis.{Axis}
 use Rattle.motions.specs.declared.axes.Axis.TheVariants.{X, Y, Z}

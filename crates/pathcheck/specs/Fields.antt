@@ -1,7 +1,7 @@
 -- A line of bytes as fields, and fields as numbers. Assumes nothing.
---     is_blank b       a tab, a carriage return or a space
---     fields s         the longest runs of bytes that are no blanks, in order
---     number_of f       the number that a field spells: an optional minus and 1 to 9 digits
+--     is_blank b     a tab, a carriage return or a space
+--     fields s       the longest runs of bytes that are no blanks, in order
+--     number_of f    the number that a field spells: an optional minus and 1 to 9 digits
 use Rattle.std.specs.Prelude.{ℕ, ◌+◌, ◌-◌, ◌*◌, Bool, true, false, cond, not, ◌&&◌, ◌||◌, List, [], ◌∷◌, length, drop, ℤ, pos, neg_ℤ, Some, None, Option, ◌==◌, nat_le, slice_index}
 use Rattle.std.specs.Option.{option_map}
 

@@ -1,7 +1,7 @@
 -- The numbers of the sample shop, in micrometres. Assumes nothing.
---     shop_limits           X from 0 to 600000, Y from 0 to 400000, Z from −50000 to 100000
+--     shop_limits               X from 0 to 600000, Y from 0 to 400000, Z from −50000 to 100000
 --     shop_normal, shop_edge    X + Y ≤ 900000
---     shop_home             0, 0, 100000
+--     shop_home                 0, 0, 100000
 use Rattle.std.specs.Prelude.{ℤ, pos, negsuc, Some}
 use Rattle.motions.specs.declared.axes.Axes.{Axes}
 use Rattle.motions.specs.declared.limits.Limits.{Limits}
