@@ -10,8 +10,7 @@ ghost use Rattle.rules.specs.Sources.{AssignsInRange};
 ghost use Rattle.reading.specs.Reading.{held_text, held_lines};
 
 use crate::names::within_line;
-use forms::said::{Place, Statement, Target, Test, Words};
-use motions::axes::Axes;
+use forms::said::{Axes, Place, Statement, Target, Test, Words};
 use reading::program::{Held, Program};
 use sums::parameters::Parameters;
 use sums::reading::worth;
@@ -30,9 +29,9 @@ fn axis_value(line: &[u8], v: Option<Value>, params: &Parameters) -> Option<Opti
 /// The value of each axis that the line names.
 fn axis_values(
     line: &[u8],
-    a: Axes<Option<Value>>,
+    a: Axes<Value>,
     params: &Parameters,
-) -> Option<Axes<Option<i64>>>
+) -> Option<Axes<i64>>
     ensures value { result ≡ each (value params.now.values) (axes_is line.now a) }
 {
     let x = axis_value(line, a.x, params)?;

@@ -36,7 +36,7 @@ use Rattle.rules.specs.declared.state.Measure.TheVariants.{Absolute, Incremental
 use Rattle.rules.specs.declared.state.Slot.{Slot}
 use Rattle.rules.specs.declared.state.Slot.TheVariants.{G500, G54, G55, G56, G57}
 use Rattle.rules.specs.declared.state.Zeros.{Zeros}
-use Rattle.rules.specs.Values.{Each}
+use Rattle.rules.specs.Values.{Each, by_axis}
 use Rattle.rules.specs.State.{State, Made, Event, goes, ends, origin, no_frame, refuse_motion, with_modal, due_at, moved_to}
 
 -- ---- the functions of a line
@@ -90,8 +90,8 @@ end_of m f z at v = record {
 
 abbrev pub centre_of : Plane → Axes ℤ → Each ℤ → Vector
 centre_of l at c = record {
-  u = coordinate (u_axis l) at +ℤ unwrap_or (coordinate (u_axis l) c) (pos 0);
-  v = coordinate (v_axis l) at +ℤ unwrap_or (coordinate (v_axis l) c) (pos 0);
+  u = coordinate (u_axis l) at +ℤ unwrap_or (coordinate (u_axis l) (by_axis c)) (pos 0);
+  v = coordinate (v_axis l) at +ℤ unwrap_or (coordinate (v_axis l) (by_axis c)) (pos 0);
 }
 
 abbrev pub kind_of : Interpolation → Plane → Axes ℤ → Each ℤ → PathKind
@@ -113,7 +113,7 @@ any_named a = is_some a.x || (is_some a.y || is_some a.z)
 abbrev pub misplaced : Interpolation → Plane → Each ℤ → Bool
 misplaced Rapid l c = any_named c
 misplaced Line l c = any_named c
-misplaced (Arc t) l c = is_some (coordinate (w_axis l) c)
+misplaced (Arc t) l c = is_some (coordinate (w_axis l) (by_axis c))
 
 abbrev pub fault_by : Bool → Row → Option Reason
 fault_by wrong m = cond (row_in_range m) (cond (wrong || not (keeps_arc_rule m)) (Some ArcRule) None) (Some MotionRange)

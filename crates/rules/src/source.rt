@@ -21,15 +21,15 @@ pub trait Source {
 
     /// How many lines there are.
     fn count(&self) -> usize
-        ensures value { result ≡ length (lines self.now) }
+        ensures value { result ≡ length (Self.lines self.now) }
         ensures few { result ≤ 2000 };
 
     /// What a line says, with the value of each of its sums; nothing where one of them is beyond its range.
     fn says(&self, number: usize, params: &Parameters) -> Option<Statement<i64, Place>>
-        ensures value { option_map (named (names self.now)) result ≡ valued (value params.now.values) (says_of (numbered (lines self.now) number)) }
+        ensures value { option_map (named (Self.names self.now)) result ≡ valued (value params.now.values) (says_of (numbered (Self.lines self.now) number)) }
         ensures ranged { AssignsInRange result };
 
     /// The line that a target means, seen from a line.
     fn find(&self, forward: bool, target: Target<Place>, from: usize) -> Option<usize>
-        ensures value { result ≡ target_is (lines self.now) forward (named_target (names self.now) target) from };
+        ensures value { result ≡ target_is (Self.lines self.now) forward (named_target (Self.names self.now) target) from };
 }

@@ -3,7 +3,7 @@ use motions::axes::{Axes, Plane};
 use motions::row::Turn;
 
 /// A value for each axis that is named.
-pub type Named<V> = Axes<Option<V>>;
+pub type Named<V> = forms::said::Axes<V>;
 
 /// The way from start to end: G0, G1, and G2 or G3.
 #[derive(Clone, Copy, Drop)]

@@ -26,7 +26,7 @@ returns c =
     let o = c.zero-zero.result in
     record {
       value = c.reached.ensures.value ∙ ap each_in_reach (three
-          (one m at.x o.x _ s.x v.x c.goal-x.type-inv (search rules) (search rules) (search rules) (ap (λ (t : Axes ℤ). t.x) c.zero-zero.ensures.value) c.goal-x.ensures.value)
-          (one m at.y o.y _ s.y v.y c.goal-y.type-inv (search rules) (search rules) (search rules) (ap (λ (t : Axes ℤ). t.y) c.zero-zero.ensures.value) c.goal-y.ensures.value)
-          (one m at.z o.z _ s.z v.z c.goal-z.type-inv (search rules) (search rules) (search rules) (ap (λ (t : Axes ℤ). t.z) c.zero-zero.ensures.value) c.goal-z.ensures.value));
+          (one m at.x o.x _ s.x v.x c.goal-x.type_inv (search rules) (search rules) (search rules) (ap (λ (t : Axes ℤ). t.x) c.zero-zero.ensures.value) c.goal-x.ensures.value)
+          (one m at.y o.y _ s.y v.y c.goal-y.type_inv (search rules) (search rules) (search rules) (ap (λ (t : Axes ℤ). t.y) c.zero-zero.ensures.value) c.goal-y.ensures.value)
+          (one m at.z o.z _ s.z v.z c.goal-z.type_inv (search rules) (search rules) (search rules) (ap (λ (t : Axes ℤ). t.z) c.zero-zero.ensures.value) c.goal-z.ensures.value));
     }

@@ -11,11 +11,11 @@ use Rattle.rules.proofs.paths.motion.Goals as goal
 made : (m r : Row) → Some r ≡ row_in_reach m → r ≡ m
 made m r e = (there _ m r e).1
 
-pub returns-in-default : goal.returns-in-default
-returns-in-default c =
+pub returns-in_default : goal.returns-in_default
+returns-in_default c =
     let fs = c.args.functions.now in
     let m = row_from fs c.args.frame.now c.args.zeros.now c.args.at c.args.words.now in
-    record { value = beyond m (misplaced fs.interpolation fs.plane c.args.words.now.centres) c.in-default.ensures.value }
+    record { value = beyond m (misplaced fs.interpolation fs.plane c.args.words.now.centres) c.in_default.ensures.value }
 
 pub returns-in-Err : goal.returns-in-Err
 returns-in-Err c =

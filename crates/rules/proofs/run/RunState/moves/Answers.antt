@@ -23,16 +23,16 @@ moved ws s fs o e f = ap (λ (x : Option Reason). judged_by x ws (settled ws s))
 pub returns-in-Err : goal.returns-in-Err
 returns-in-Err c =
     record {
-      value = moved c.args.words.now (state_of c.args.self.now) c.in-force-functions.result (Some c.in-Err.reason) c.in-force-functions.ensures.value c.in-Err.ensures.value;
+      value = moved c.args.words.now (state_of c.args.self.now) c.in_force-functions.result (Some c.in-Err.reason) c.in_force-functions.ensures.value c.in-Err.ensures.value;
       same = search rules;
     }
 
-pub returns-then-self-ge-MOST-MOTIONS : goal.returns-then-self-ge-MOST-MOTIONS
-returns-then-self-ge-MOST-MOTIONS c =
+pub returns-then-self-ge-MOST_MOTIONS : goal.returns-then-self-ge-MOST_MOTIONS
+returns-then-self-ge-MOST_MOTIONS c =
     let ws = c.args.words.now in
     let s = state_of c.args.self.now in
     record {
-      value = sym (cond-true (leb most_motions s.made) (refuse_motion MotionsMade s) _ (le-leb most_motions s.made c.if-self-ge-MOST-MOTIONS.true))
-          ∙ moved ws s c.in-force-functions.result None c.in-force-functions.ensures.value c.in-Ok.ensures.value.0;
+      value = sym (cond-true (leb most_motions s.made) (refuse_motion MotionsMade s) _ (le-leb most_motions s.made c.if-self-ge-MOST_MOTIONS.true))
+          ∙ moved ws s c.in_force-functions.result None c.in_force-functions.ensures.value c.in-Ok.ensures.value.0;
       same = search rules;
     }
