@@ -30,7 +30,7 @@ fn nearest<K: Key>(
     forward: bool,
     from: usize,
 ) -> Option<usize>
-    ensures value { result ≡ nearest_by forward from (lines_with (same text.now) key.now (take index.now.used index.now.room.now)) }
+    ensures value { result ≡ nearest_by forward from (lines_with (K.same text.now) key.now (take index.now.used index.now.room.now)) }
 {
     if forward {
         index.after(text, key, from)

@@ -17,28 +17,28 @@ here p n h text t is = numbered_here (held_lines p) n (said text h) (ap (λ s. S
 few : (p : Program) → length (held_lines p) ≤ 2000
 few p = omega (arith, length-map (vec_items p.lines) (said (held_text p)), p.lines.ok.0, p.few)
 
-pub returns-in-err-enter-line : goal.returns-in-err-enter-line
-returns-in-err-enter-line c =
+pub returns-in_err-enter_line : goal.returns-in_err-enter_line
+returns-in_err-enter_line c =
     let p = c.args.program.now in
     let n = c.loop-held.number in
     let h = c.in-Some.held in
     let s = c.text.result.now in
     let at = here p n h s c.text.ensures.value c.in-Some.ensures.value in
     let was = started (room_of c.loop-held.numbers.room.now c.loop-held.numbers.used) (room_of c.loop-held.labels.room.now c.loop-held.labels.used) in
-    let line = c.in-err-enter-line.ensures in
-    let done = lines_stop (held_lines p) n (said s h) was at.on c.in-err-enter-line.field-0.0 line.answer ∙ c.loop-held.invariant.2 in
-    let out = err_from_is_err_and c.from-residual.result c.from-residual.ensures.1 in
+    let line = c.in_err-enter_line.ensures in
+    let done = lines_stop (held_lines p) n (said s h) was at.on c.in_err-enter_line.field-0.0 line.answer ∙ c.loop-held.invariant.2 in
+    let out = err_from_is_err_and c.from_residual.result c.from_residual.ensures.1 in
     record {
       numbers = line.numbers ∙ ap (λ r. r.numbers) done;
       labels = line.labels ∙ ap (λ r. r.labels) done;
       answer = out.1 ∙ ap (λ e. Err e) out.2 ∙ line.answer ∙ ap (λ r. answer r.full) done;
-      whole = IfOk-from_err c.from-residual.result _ c.from-residual.ensures.0;
+      whole = IfOk-from_err c.from_residual.result _ c.from_residual.ensures.0;
       length = (line.length.0 ∙ c.loop-held.invariant.3, line.length.1 ∙ c.loop-held.invariant.4);
       lent = (line.lent.0 ∙ c.loop-held.invariant.5, line.lent.1 ∙ c.loop-held.invariant.6);
     }
 
-pub overflow-add-number : goal.overflow-add-number
-overflow-add-number c =
+pub overflow_add-number : goal.overflow_add-number
+overflow_add-number c =
     let p = c.args.program.now in
     let at = here p c.loop-held.number c.in-Some.held c.text.result.now c.text.ensures.value c.in-Some.ensures.value in
     record { fits = omega (arith, at.high, few p) }
@@ -57,7 +57,7 @@ loop-held-preserved c =
     let s = c.text.result.now in
     let at = here p n h s c.text.ensures.value c.in-Some.ensures.value in
     let was = started (room_of c.loop-held.numbers.room.now c.loop-held.numbers.used) (room_of c.loop-held.labels.room.now c.loop-held.labels.used) in
-    let line = c.in-ok-enter-line.ensures in (
+    let line = c.in_ok-enter_line.ensures in (
       omega arith,
       omega (arith, at.high),
       lines_on (held_lines p) n (said s h) was at.on _ _ line.numbers line.labels line.answer ∙ c.loop-held.invariant.2,
@@ -72,7 +72,7 @@ returns c =
     let p = c.args.program.now in
     let n = c.loop-held.number in
     let was = started (room_of c.loop-held.numbers.room.now c.loop-held.numbers.used) (room_of c.loop-held.labels.room.now c.loop-held.labels.used) in
-    let done = lines_end (held_lines p) n was (numbered_past (held_lines p) n c.loop-held.invariant.0 c.in-default.ensures.value) ∙ c.loop-held.invariant.2 in
+    let done = lines_end (held_lines p) n was (numbered_past (held_lines p) n c.loop-held.invariant.0 c.in_default.ensures.value) ∙ c.loop-held.invariant.2 in
     let numbers = c.args.numbers.now in
     let labels = c.args.labels.now in
     record {

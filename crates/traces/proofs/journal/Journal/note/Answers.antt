@@ -9,7 +9,7 @@ use Rattle.traces.proofs.journal.Journal.note.Goals as goal
 pub returns-in-Some : goal.returns-in-Some
 returns-in-Some c =
     let j = c.args.self.now in
-    let put = c.push-reserved.ensures in
+    let put = c.push_reserved.ensures in
     record {
       value = ap (map made_is) put.items ∙ map-append made_is (vec_items j.made) (c.in-Some.made ∷ [])
           ∙ ap (λ (o : Option Made). with_next (recorded j) (option_map made_is o)) (sym c.in-Some.is);
