@@ -30,9 +30,9 @@ impl Journal {
 
     /// Records the motion of a line, if it made one.
     fn note(&mut self, made: Option<Made>)
-        requires { HasRoom IfOk (noted self.old) }
-        ensures value { recorded self.new ≡ with_next (recorded self.old) (option_map made_is IfOk) }
-        ensures count { noted self.new ≡ counted_with IfOk (noted self.old) }
+        requires { HasRoom made (noted self.old) }
+        ensures value { recorded self.new ≡ with_next (recorded self.old) (option_map made_is made) }
+        ensures count { noted self.new ≡ counted_with made (noted self.old) }
     {
         if let Some(made) = made {
             self.made.push_reserved(made);
