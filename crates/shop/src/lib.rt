@@ -1,4 +1,6 @@
 //! The sample shop: a router for panels of 600 by 400 mm with one corner cut off.
+#![tactic(auto)]
+
 ghost use Rattle.std.specs.Prelude.{◌≡◌};
 ghost use Rattle.motions.specs.Model.{home_of};
 ghost use Rattle.geometry.specs.Model.{limits_of, normal_of, limit_of};
