@@ -1,6 +1,6 @@
 -- What a line asks for: R or L and an end, A or C and a plane, an end and a centre. Assumes nothing.
 --     said s        the path and the end that the line s asks for, or nothing where it is not of that form
-use Rattle.std.specs.Prelude.{ℕ, zero, suc, ◌+◌, Bool, cond, List, [], ◌∷◌, length, ℤ, pos, negsuc, Some, None, Option, ◌==◌, slice_index_or}
+use Rattle.std.specs.Prelude.{ℕ, ◌+◌, cond, List, [], ◌∷◌, length, ℤ, pos, negsuc, Some, None, Option, ◌==◌, slice_index_or}
 use Rattle.algebra.specs.declared.vector.Vector.{Vector}
 use Rattle.motions.specs.declared.axes.Axes.{Axes}
 use Rattle.motions.specs.declared.axes.Plane.{Plane}

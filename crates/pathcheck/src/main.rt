@@ -1,4 +1,6 @@
 //! Judges motions, one a line of standard input, by the sample shop's fixed area.
+#![tactic(auto)]
+
 mod field;
 mod judging;
 mod line;

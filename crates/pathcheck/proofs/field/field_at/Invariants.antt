@@ -1,4 +1,4 @@
-use Rattle.std.proofs.Common.{◌≡◌, [], drop}
+use Rattle.std.proofs.Common.{◌≡◌, drop}
 use Rattle.pathcheck.specs.Fields.{fields}
 use Rattle.pathcheck.proofs.field.field_at.Given as goal
 

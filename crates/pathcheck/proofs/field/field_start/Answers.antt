@@ -4,4 +4,4 @@ use Rattle.pathcheck.proofs.field.field_start.Goals as goal
 
 pub loop-i-preserved : goal.loop-i-preserved
 loop-i-preserved c =
-    rw add-one (fields_skip c.args.line.now c.loop-i.i c.loop-i-test.true (sym c.is-blank.ensures.value ∙ c.if-not-is-blank.false) ∙ c.loop-i.invariant)
+    rw add-one (fields_skip c.args.line.now c.loop-i.i c.loop-i-test.true (sym c.is_blank.ensures.value ∙ c.if-not-is_blank.false) ∙ c.loop-i.invariant)

@@ -1,4 +1,4 @@
 use Rattle.pathcheck.proofs.field.number.Goals as goal
 
-pub split-at-requires : goal.split-at-requires
-split-at-requires c = c.has-minus.ensures.some c.if-has-minus.true
+pub split_at-requires : goal.split_at-requires
+split_at-requires c = c.has_minus.ensures.some c.if-has_minus.true
