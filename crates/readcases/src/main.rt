@@ -1,8 +1,7 @@
-//! Reads texts from files and tells of each how many lines it has and what its trace is, or why it is refused. Of a file whose
-//! name ends in `.lines` each line is a text of its own.
+//! Reads texts from files and tells of each how many lines it has, or why it is refused. Of a file whose name ends in
+//! `.lines` each line is a text of its own.
 use reading::program::Program;
 use std::{env, fs};
-use tracelist::telling;
 
 /// Reads the text in a file and tells what came of it.
 fn tell(rt: &HostRuntime, name: &str) -> anyhow::Result<()> {
@@ -12,7 +11,6 @@ fn tell(rt: &HostRuntime, name: &str) -> anyhow::Result<()> {
         Ok(()) => {
             let count = program.count();
             println!(rt; "{name}: {count} lines")?;
-            telling::tell(rt, text.as_slice())?;
         }
         Err(refusal) => {
             let number = refusal.reason.number();

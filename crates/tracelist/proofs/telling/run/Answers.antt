@@ -28,6 +28,6 @@ returns c =
     record {
       value = entered p _ (room_of c.new-numbers.result.room.now c.new-numbers.result.used) _ (room_of c.new-labels.result.room.now c.new-labels.result.used) c.record.new.self c.record.result
           (λ i. room_of (fresh.room i) (fresh.empty i)) (λ i. room_of (fresh'.room i) (fresh'.empty i))
-          c.in-ok-enter-targets.ensures.answer
+          c.in_ok-enter_targets.ensures.answer
           (c.record.ensures.value ∙ ap (λ (u : Setup). trace p u) c.setup.ensures.value);
     }
