@@ -27,11 +27,7 @@ fn axis_value(line: &[u8], v: Option<Value>, params: &Parameters) -> Option<Opti
 }
 
 /// The value of each axis that the line names.
-fn axis_values(
-    line: &[u8],
-    a: Axes<Value>,
-    params: &Parameters,
-) -> Option<Axes<i64>>
+fn axis_values(line: &[u8], a: Axes<Value>, params: &Parameters) -> Option<Axes<i64>>
     ensures value { result ≡ each (value params.now.values) (axes_is line.now a) }
 {
     let x = axis_value(line, a.x, params)?;

@@ -1,4 +1,6 @@
 //! Writes the trace of a part program from standard input, as the rules make it in the sample shop. No area is asked, so nothing is judged here.
+#![tactic(auto)]
+
 use std::io::Read;
 use tracelist::telling::tell;
 

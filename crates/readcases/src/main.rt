@@ -1,5 +1,7 @@
 //! Reads texts from files and tells of each how many lines it has, or why it is refused. Of a file whose name ends in
 //! `.lines` each line is a text of its own.
+#![tactic(auto)]
+
 use reading::program::Program;
 use std::{env, fs};
 

@@ -1,6 +1,6 @@
 -- Wide numbers that were found to be in range, as narrow ones. Assumes nothing.
-use Rattle.std.proofs.Common.{◌≡◌, ℕ, ◌^◌, ◌<◌, ◌≤◌, true, ℤ, pos, neg_ℤ, sym, ap, ◌∙◌, arith, w32, SFits, to_z, of_z}
-use lib.Signed.{le_z, mag}
+use Rattle.std.proofs.Common.{◌≡◌, ℕ, ◌^◌, ◌<◌, true, ℤ, pos, neg_ℤ, sym, ap, ◌∙◌, arith, w32, SFits}
+use lib.Signed.{le_z}
 use mir.Syntax.{w128}
 use Rattle.std.proofs.lemmas.Int.{ints, to_z-of_z}
 use Rattle.std.proofs.lemmas.Bool.{and_parts}

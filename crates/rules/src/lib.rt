@@ -1,4 +1,6 @@
 //! The rules of a run: what each line does, motion by motion.
+#![tactic(auto)]
+
 mod ends;
 mod functions;
 mod open;

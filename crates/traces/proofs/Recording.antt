@@ -6,7 +6,7 @@ use Rattle.motions.specs.declared.refusal.Refusal.{Refusal}
 use Rattle.rules.specs.declared.run.Made.{Made as CodeMade}
 use Rattle.rules.specs.Model.{made_is}
 use Rattle.rules.specs.Moves.{after}
-use Rattle.rules.specs.State.{State, Made, Event, refused}
+use Rattle.rules.specs.State.{State, Made, refused}
 use Rattle.rules.specs.Steps.{step}
 use Rattle.rules.specs.Targets.{Said}
 use Rattle.traces.specs.Model.{with_next, HasRoom, counted_with}

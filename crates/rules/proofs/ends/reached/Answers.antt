@@ -1,4 +1,4 @@
-use Rattle.std.proofs.Common.{◌≡◌, Bool, true, cond, ◌&&◌, ℤ, Some, sym, ap, ◌∙◌, lit<}
+use Rattle.std.proofs.Common.{◌≡◌, true, ℤ, Some, sym, ap, ◌∙◌, lit<}
 use Rattle.std.proofs.lemmas.Bool.{and_from, cond-true}
 use Rattle.motions.specs.declared.axes.Axes.{Axes}
 use Rattle.motions.specs.Ranges.{within, position_range}

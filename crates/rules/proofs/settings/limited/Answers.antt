@@ -1,6 +1,6 @@
 use Rattle.std.proofs.Common.{◌≡◌, true, ℤ, Some, Option, sym, ap, ◌∙◌, arith, lit<, w32, w64, SFits, rules}
 use mir.Syntax.{w128}
-use Rattle.std.proofs.lemmas.Int.{ints, to_z-of_z}
+use Rattle.std.proofs.lemmas.Int.{ints}
 use Rattle.std.proofs.lemmas.Bool.{cond-true}
 use Rattle.algebra.proofs.Bounded.{bitted}
 use Rattle.geometry.specs.Model.{limits_of}

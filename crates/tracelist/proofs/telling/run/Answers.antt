@@ -1,4 +1,4 @@
-use Rattle.std.proofs.Common.{◌≡◌, ℕ, List, Some, None, Ok, Option, Result, sym, ap, ◌∙◌, arith}
+use Rattle.std.proofs.Common.{◌≡◌, ℕ, List, Some, None, Ok, Option, Result, ap, ◌∙◌, arith}
 use Rattle.motions.specs.declared.refusal.Refusal.{Refusal}
 use Rattle.forms.specs.declared.said.Place.{Place}
 use Rattle.language.specs.Indexing.{Room, room_of, enter_all, answer}

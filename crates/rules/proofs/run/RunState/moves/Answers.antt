@@ -1,4 +1,4 @@
-use Rattle.std.proofs.Common.{◌≡◌, ◌≤◌, Bool, true, false, cond, leb, ℤ, Some, None, Option, sym, refl, ap, ◌∙◌, rules}
+use Rattle.std.proofs.Common.{◌≡◌, leb, ℤ, Some, None, Option, sym, ap, ◌∙◌, rules}
 use Rattle.std.proofs.lemmas.Bool.{cond-true, le-leb}
 use Rattle.motions.specs.declared.refusal.Reason.{Reason}
 use Rattle.motions.specs.declared.refusal.Reason.TheVariants.{MotionsMade}
