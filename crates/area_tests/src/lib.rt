@@ -1,4 +1,5 @@
 //! Worked examples of motions and areas, as tests. They stand apart from `motions` and `geometry`, which would be proved twice with them.
+#![tactic(auto)]
 
 #[cfg(test)]
 mod arcs;
