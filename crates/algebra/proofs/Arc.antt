@@ -1,7 +1,7 @@
 -- An arc about the origin against a half plane n·x ≤ d: the test `stays` answers exactly. Assumes nothing.
---     kept             one point beyond, off the arc, keeps every point of the arc within
---     out_start .. in_clear      the cases of the test
---     arc_told         the whole: yes with every point within, no with a point beyond
+--     kept                   one point beyond, off the arc, keeps every point of the arc within
+--     out_start .. in_clear  the cases of the test
+--     arc_told               the whole: yes with every point within, no with a point beyond
 use Rattle.std.proofs.Common.{◌≡◌, true, false, [], ◌∷◌, ℤ, pos, ◌+ℤ◌, ◌-ℤ◌, ◌*ℤ◌, ◌≤ℤ◌, ◌<ℤ◌, MatchBool, sym, refl, ap, ◌∙◌, arith}
 use Rattle.std.proofs.lemmas.Int.{ints}
 use Rattle.algebra.specs.declared.vector.Vector.{Vector}

@@ -1,5 +1,5 @@
 -- A fraction point of a circle beyond a line that meets it: s reflected at an axis f = α·s + β·n. Assumes nothing.
--- Throughout R = s·s, N = n·n, c = n·s, and the line is n·x = d with |c| ≤ d < √(R-as-N); α = K + (d − c)·N, β = K + (d − c)·R, K = R-as-N − d·c.
+-- Throughout R = s·s, N = n·n, c = n·s, and the line is n·x = d with |c| ≤ d < √(R·N); α = K + (d − c)·N, β = K + (d − c)·R, K = R·N − d·c.
 use Rattle.std.proofs.Common.{◌≡◌, [], ◌∷◌, ℤ, pos, ◌+ℤ◌, ◌-ℤ◌, ◌*ℤ◌, ◌≤ℤ◌, ◌<ℤ◌, sym, ◌∙◌, arith}
 use Rattle.std.proofs.lemmas.Int.{ints}
 use Rattle.algebra.specs.declared.vector.Vector.{Vector}

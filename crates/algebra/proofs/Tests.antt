@@ -1,8 +1,8 @@
 -- What the answer of a test tells: `When r I O` is I where r is true, O where it is false. Assumes nothing.
---     by_less        cond of a < test
---     less, at_most  the test itself
---     and_told       two tests, the second asked where the first holds
---     same_is, same_not, same_yes      the test of equal numbers
+--     by_less                      cond of a < test
+--     less, at_most                the test itself
+--     and_told                     two tests, the second asked where the first holds
+--     same_is, same_not, same_yes  the test of equal numbers
 use Rattle.std.proofs.Common.{◌≡◌, Bool, true, false, cond, ◌&&◌, ℤ, ◌≤ℤ◌, ◌<ℤ◌, MatchBool, refl, arith}
 use lib.Signed.{lt_z, le_z}
 use Rattle.std.proofs.lemmas.Int.{ints}

@@ -1,5 +1,5 @@
 -- The same words for vectors of expressions, and identities of vectors. Assumes nothing.
---     VecE, dot_e, cross_e, −E, scaled_e   a vector of expressions, and the operations of specs.Plane on it
+--     VecE, dot_e, cross_e, −E, scaled_e  a vector of expressions, and the operations of specs.Plane on it
 --     mix a s b n                         a·s + b·n
 --     mirror s f                          s reflected at the line through the origin along f, times f·f
 use Rattle.std.proofs.Common.{◌≡◌, [], ◌∷◌, ℤ, pos, ◌+ℤ◌, ◌-ℤ◌, ◌*ℤ◌, ◌≤ℤ◌, ◌<ℤ◌, sym}

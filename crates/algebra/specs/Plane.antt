@@ -35,7 +35,7 @@ abbrev pub Beyond : Vector → Vector → Vector → ℤ → Type 0
 Beyond s e n d = (x : Vector) × (w : ℤ) × OnArc s e x w × ((d *ℤ w) <ℤ dot n x)
 
 -- with R = s·s, N = n·n, c = n·s, and m and g what e has more than s along s and along n:
--- (K + (d − c)·N)·m + (K + (d − c)·R)·g where K = R-as-N − d·c
+-- (K + (d − c)·N)·m + (K + (d − c)·R)·g where K = R·N − d·c
 abbrev pub side_of : ℤ → ℤ → ℤ → ℤ → ℤ → ℤ → ℤ
 side_of R N c d m g =
     ((R *ℤ N -ℤ d *ℤ c) +ℤ (d -ℤ c) *ℤ N) *ℤ m +ℤ ((R *ℤ N -ℤ d *ℤ c) +ℤ (d -ℤ c) *ℤ R) *ℤ g

@@ -1,6 +1,6 @@
 -- What the values that carry a promise stand for. Assumes nothing.
 --     row_of m          the numbers of the motion m
---     Remade m r       r is what the check of the row m answers: the motion with its numbers, or its fault
+--     Remade m r        r is what the check of the row m answers: the motion with its numbers, or its fault
 --     home_of h         the position of a home
 use Rattle.std.specs.Prelude.{◌≡◌, ℤ, Some, None, Ok, Err, Result}
 use Rattle.motions.specs.declared.axes.Axes.{Axes}

@@ -1,10 +1,10 @@
 -- The ranges of the numbers that are handed in, in micrometres but for an edge's factors. Assumes nothing.
---     within b z             z lies from −b to b
---     each_within b t        so does each of t's three
---     present_within b o     so does o, where there is one
---     position_range         of a position's coordinates, and of a box's limits
---     centre_range           of the coordinates of an arc's centre
---     factor_range, edge_range    of an edge's factors, and of its limit
+--     within b z                z lies from −b to b
+--     each_within b t           so does each of t's three
+--     present_within b o        so does o, where there is one
+--     position_range            of a position's coordinates, and of a box's limits
+--     centre_range              of the coordinates of an arc's centre
+--     factor_range, edge_range  of an edge's factors, and of its limit
 use Rattle.std.specs.Prelude.{ℕ, Bool, true, ◌&&◌, ℤ, pos, neg_ℤ, Some, None, Option, int_le}
 use Rattle.motions.specs.declared.axes.Axes.{Axes}
 

@@ -1,6 +1,6 @@
 -- The numbers of the reasons for a refusal, and the refusal of a setting. Assumes nothing.
 --     number_of r         the number that a shop knows the reason r by
---     refused_setting    reason Setting, of no line and no motion
+--     refused_setting     reason Setting, of no line and no motion
 use Rattle.std.specs.Prelude.{ℕ}
 use Rattle.motions.specs.declared.refusal.Reason.{Reason}
 use Rattle.motions.specs.declared.refusal.Reason.TheVariants.{TextSize, LineForm, ValueRange, MotionRange, ArcRule, NoTarget, NoEnd, FixedArea, WorkingArea, Setting, MotionsWait, LinesRun, MotionsMade, IndexRoom, NothingWaits, RepeatsOpen}
