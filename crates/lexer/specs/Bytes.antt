@@ -2,10 +2,10 @@
 --     is_blank, is_letter    a tabulator, a carriage return or a space; a letter of either case
 --     starts_name, in_name   a byte that a name may begin with; one that it may go on with
 --     letter_of c            the address letter that the small letter c is
---     mark_of c d             what a mark opens with at the bytes c and d, one of two bytes first
+--     mark_of c d            what a mark opens with at the bytes c and d, one of two bytes first
 --     opens c d              what opens at the byte c where d follows it (0 past the end)
 --     run p s                how many bytes at the front of s pass the test p
---     in_code c               the byte c opens no comment
+--     in_code c              the byte c opens no comment
 --     code s                 the bytes of a line before its comment
 use Rattle.std.specs.Prelude.{ℕ, suc, Bool, true, false, cond, not, ◌&&◌, ◌||◌, List, [], ◌∷◌, take, ◌==◌}
 use Rattle.lexer.specs.Digits.{within, is_digit}

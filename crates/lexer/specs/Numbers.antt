@@ -1,5 +1,5 @@
 -- What the digits of a number stand for. Assumes nothing.
---     value_of ds         what a run of digits stands for
+--     value_of ds        what a run of digits stands for
 --     integer_of n       what n stands for, if it has no point
 --     digits_of most n   the same, if it has at most so many digits
 --     decimal_of n       n in thousandths, if it has at most 7 digits before the point and 3 after it

@@ -2,7 +2,7 @@
 --     Num                the digits of a number: those before the point, and those after it if there is one
 --     Token              a name has its bytes with capitals made small, its place, and whether a blank or the end
 --                        follows; a word is a letter with a number directly after it; `end` stands after the last token
---     num_of s            the number that s begins with
+--     num_of s           the number that s begins with
 --     token_at i s       the token that s begins with, and its length; None at a blank. i is the place of s
 --     tokens_from k i s  the tokens of s, whose place is i, after k bytes that are passed over
 --     tokens_of i line   the tokens of a line whose place is i
