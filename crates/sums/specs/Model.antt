@@ -5,7 +5,7 @@
 --     Onward line at r       r, if anything, comes to fewer tokens, and its value is in the range
 --     Signed line at r       r is the sign at a place, true for minus, and the place after it
 --     Took m line at r       r is the place after the mark m at a place
---     sum_at line at          the sum that stands at a place
+--     sum_at line at         the sum that stands at a place
 --     Fewer line at r        r, if anything, is a place with fewer tokens from it on
 --     value_is line v        the sum that a value which a line holds stands for
 use Rattle.std.specs.Prelude.{◌≡◌, ℕ, ◌<◌, Bool, List, ℤ, pos, negsuc, ◌≤ℤ◌, Some, None, Option}

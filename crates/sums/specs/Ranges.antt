@@ -1,5 +1,5 @@
 -- Which values of the R parameters are in their range. Assumes nothing.
---     inRange z          z, in thousandths, is at most 9,999,999.999 either way
+--     in_range z         z, in thousandths, is at most 9,999,999.999 either way
 --     all_in_range ps    each value of ps is
 use Rattle.std.specs.Prelude.{Bool, true, ◌&&◌, List, [], ◌∷◌, ℤ, pos, negsuc, int_le}
 

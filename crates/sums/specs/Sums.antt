@@ -1,16 +1,16 @@
 -- Sums: as trees, how their tokens are read, and what they are worth. Assumes nothing.
---     Sum                its terms in their order, each with true where it is taken away
---     Term               a number in thousandths, an R parameter, or a sum in brackets
---     single minus v     the sum of one number, with its sign
---     Reading A          reads an A from the front of the tokens: it and the tokens after it, or None
---     a >>= k            k of what a holds, and None where it holds nothing
---     sign_of t           the sign that a token is, true for minus
---     take_mark m ts     the tokens after the mark m, where they begin with it
---     term_of d, sum_in d    reads a term, a sum, while d brackets may be opened in it
---     bracket_of d        reads what follows an opening bracket, up to its closing one, while d - 1 more may be opened
---     sum_of              reads a sum
+--     Sum                         its terms in their order, each with true where it is taken away
+--     Term                        a number in thousandths, an R parameter, or a sum in brackets
+--     single minus v              the sum of one number, with its sign
+--     Reading A                   reads an A from the front of the tokens: it and the tokens after it, or None
+--     a >>= k                     k of what a holds, and None where it holds nothing
+--     sign_of t                   the sign that a token is, true for minus
+--     take_mark m ts              the tokens after the mark m, where they begin with it
+--     term_of d, sum_in d         reads a term, a sum, while d brackets may be opened in it
+--     bracket_of d                reads what follows an opening bracket, up to its closing one, while d - 1 more may be opened
+--     sum_of                      reads a sum
 --     worth ps t, total ps acc s  what a term is worth, and a sum added to acc, in thousandths, ps being the parameters;
---                        added from left to right, and None where a partial result is beyond the range
+--                                 added from left to right, and None where a partial result is beyond the range
 use Rattle.std.specs.Prelude.{ℕ, zero, suc, Bool, true, false, cond, List, length, ℤ, pos, ◌+ℤ◌, ◌-ℤ◌, Some, None, Option, ◌==◌, slice_index_or}
 use Rattle.sums.specs.Ranges.{in_range}
 use Rattle.lexer.specs.Tokens.{Token, name, word, letter, number, mark, bad, end, first, rest}

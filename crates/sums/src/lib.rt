@@ -1,4 +1,6 @@
 //! Sums: what stands at a place of a line, and what it is worth.
+#![tactic(auto)]
+
 pub mod marks;
 pub mod parameters;
 pub mod reading;

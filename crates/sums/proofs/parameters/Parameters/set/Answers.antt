@@ -1,7 +1,6 @@
 -- The values stay in range where one in range is put in.
-use Rattle.std.proofs.Common.{◌≡◌, ℕ, zero, suc, ◌≤◌, Bool, true, false, cond, List, [], ◌∷◌, length, set, ℤ, sym, refl, ap, ◌∙◌, subst, arith, w64, rules}
+use Rattle.std.proofs.Common.{◌≡◌, ℕ, zero, suc, ◌≤◌, Bool, true, false, cond, List, [], ◌∷◌, length, set, ℤ, sym, refl, rules}
 use Rattle.std.proofs.lemmas.List.{set_past}
-use Rattle.std.proofs.lemmas.Int.{to_z-of_z}
 use Rattle.std.proofs.lemmas.Bool.{and_parts, and_from}
 use Rattle.sums.specs.Ranges.{in_range, all_in_range}
 use Rattle.sums.proofs.parameters.Parameters.set.Goals as goal
