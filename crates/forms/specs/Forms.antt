@@ -1,12 +1,12 @@
 -- The forms of a line, over its tokens. Assumes nothing.
---     Named              a name with capitals made small, and its place in the text
---     ended a ts         a, where no token is left
+--     Named               a name with capitals made small, and its place in the text
+--     ended a ts          a, where no token is left
 --     signed_of           reads what follows an axis letter that no number follows directly: a sign and a number, or = and a sum
 --     one_word t          reads the word that begins with the token t
---     all_words ts       the words from here to the end of the line
+--     all_words ts        the words from here to the end of the line
 --     limits_line upper, dwell_line, shift_line adds, assign_line n, jump_line forward test, if_line, repeat_line
---                        what follows G25 or G26, G4, TRANS or ATRANS, R and the number n, GOTOF or GOTOB, IF, REPEAT
---     statement_of ts    what a line says after its number and its label
+--                         what follows G25 or G26, G4, TRANS or ATRANS, R and the number n, GOTOF or GOTOB, IF, REPEAT
+--     statement_of ts     what a line says after its number and its label
 --     form_of ts          a line: an optional N number, an optional label and its colon, and a statement
 --     line_at place line  what a line says that begins at a place of the text
 use Rattle.std.specs.Prelude.{ℕ, zero, suc, Bool, true, false, cond, List, length, Some, None, Option, ◌==◌, nat_le}

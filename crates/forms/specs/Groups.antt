@@ -1,11 +1,11 @@
 -- The G functions of a line: at most one of each group. Assumes nothing.
---     Group              the groups; `none` is that of the functions that may not stand among words
---     group_of g          the group of the function g
---     once o b           b where o holds nothing yet, and None where it does; `once_set` is the same of a mark that is set
---     with_g g s         s with g as well, or None where its group has one already, or there is no group
---     free o             o holds nothing
+--     Group                  the groups; `none` is that of the functions that may not stand among words
+--     group_of g             the group of the function g
+--     once o b               b where o holds nothing yet, and None where it does; `once_set` is the same of a mark that is set
+--     with_g g s             s with g as well, or None where its group has one already, or there is no group
+--     free o                 o holds nothing
 --     no_modal s, no_flag s  no function that holds on for the next lines, or none of the others, stands in s
---     no_group           no function at all
+--     no_group               no function at all
 use Rattle.std.specs.Prelude.{ℕ, Bool, true, false, cond, not, ◌&&◌, ◌||◌, Some, None, Option, ◌==◌}
 use Rattle.lexer.specs.Digits.{within}
 use Rattle.forms.specs.declared.said.Groups.{Groups}

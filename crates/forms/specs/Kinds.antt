@@ -1,5 +1,5 @@
 -- What a letter opens, and which command a name is. Assumes nothing.
---     kind_of l           the kind of word that the letter l opens
+--     kind_of l          the kind of word that the letter l opens
 --     command_of b shut  the command that the name b is, where a blank or the end follows it (shut)
 --     function_of n      the G function that n is, if it has a group
 use Rattle.std.specs.Prelude.{ℕ, Bool, cond, not, List, Some, codes, Option}

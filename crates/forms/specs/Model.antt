@@ -1,8 +1,8 @@
 -- What the readers of the code answer over the bytes of a line. Assumes nothing.
 --     read_by f line r        what the tokens say where the code reads r: f of what it holds, and the tokens from its place on
---     Past line at r         r, if anything, comes to a place with fewer tokens from it on
+--     Past line at r          r, if anything, comes to a place with fewer tokens from it on
 --     axes_is, word_is, words_is, name_at, target_is, test_is, statement_is, line_is
---                            what the code holds by places in a line, held whole
+--                             what the code holds by places in a line, held whole
 use Rattle.std.specs.Prelude.{ℕ, ◌<◌, List, map, take, drop, Some, None, Option}
 use Rattle.std.specs.Option.{option_map}
 use Rattle.std.specs.Char.{to_ascii_lowercase}

@@ -1,4 +1,6 @@
 //! What one line of a part program says: its number, its label and its statement.
+#![tactic(auto)]
+
 pub mod groups;
 mod kinds;
 pub mod line;
