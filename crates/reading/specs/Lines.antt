@@ -1,6 +1,6 @@
 -- The lines of a text, and the limits of a text. Assumes nothing.
 --     in_line c          the byte c ends no line
---     lines_of s          the lines of a text: byte 10 ends one, and opens none at the end of the text
+--     lines_of s         the lines of a text: byte 10 ends one, and opens none at the end of the text
 --     all_short ls       no line has more than 512 bytes
 --     limits s           at most 65,536 bytes, 2,000 lines, and 512 bytes a line
 use Rattle.std.specs.Prelude.{ℕ, Bool, true, false, not, ◌&&◌, List, [], ◌∷◌, length, ◌==◌, nat_le}

@@ -1,12 +1,12 @@
 -- What a text says, and what reading one does to a program. Assumes nothing.
---     Text               the lines of a text, as data; or it is too large; or its first line of no form
---     read_lines n i ls  what the lines ls say, of which the first has the number n and the place i
---     read_text s        what a text says
---     refusal t          the refusal of such a text, if it is one
---     bad t              the number of the first line of no form, if there is one
---     said s h           what a line h that is held with the text s says
+--     Text                       the lines of a text, as data; or it is too large; or its first line of no form
+--     read_lines n i ls          what the lines ls say, of which the first has the number n and the place i
+--     read_text s                what a text says
+--     refusal t                  the refusal of such a text, if it is one
+--     bad t                      the number of the first line of no form, if there is one
+--     said s h                   what a line h that is held with the text s says
 --     held_text p, held_lines p  the text of a program, and what its lines say
---     Read s p q r       reading s turns the program p into q and answers r
+--     Read s p q r               reading s turns the program p into q and answers r
 use Rattle.std.specs.Prelude.{◌≡◌, ℕ, ◌+◌, Bool, true, false, List, [], ◌∷◌, map, length, take, Some, None, Ok, Err, vec_items, Option, Result}
 use Rattle.motions.specs.declared.refusal.Reason.TheVariants.{TextSize, LineForm}
 use Rattle.motions.specs.declared.refusal.Refusal.{Refusal}

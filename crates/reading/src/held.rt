@@ -36,6 +36,7 @@ impl<'t> Program<'t> {
         }
         Some(self.lines[number - 1])
     }
+
     /// What a value that a line holds is worth, in thousandths; nothing where a partial result is beyond the range.
     pub fn worth(&self, line: Held, v: Value, params: &Parameters) -> Option<i64>
         ensures value { result ≡ total params.now.values (Some (pos 0)) (value_is (take line.end (held_text self.now)) v) }

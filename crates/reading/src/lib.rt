@@ -1,4 +1,6 @@
 //! Part programs: a text, its lines, and what each of them says.
+#![tactic(auto)]
+
 pub mod held;
 pub mod laws;
 pub mod lines;
