@@ -1,6 +1,6 @@
 -- The nearest of some lines: what one more line at the end changes, and that it is the nearest. Assumes nothing.
---     after_push, up_to_push     the nearest with one more line at the end
---     after_nearest, up_to_nearest   the functions answer as the relations say
+--     after_push, up_to_push        the nearest with one more line at the end
+--     after_nearest, up_to_nearest  the functions answer as the relations say
 use Rattle.std.proofs.Common.{◌≡◌, ℕ, ◌<◌, ◌≤◌, min, max, Bool, true, false, ltb, leb, List, [], ◌∷◌, ◌++◌, Some, None, Option, sym, refl, ap, ◌∙◌, subst, inl, inr, ⊎_elim, arith}
 use Rattle.std.proofs.lemmas.Bool.{cases_lt, ltb-true, ltb-false, leb-true, leb-false}
 use Rattle.index.specs.Nearest.{lesser, greater, lesser_if, greater_if, nearest_after, nearest_up_to, OneOf, NearestAfter, NearestUpTo}

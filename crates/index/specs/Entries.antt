@@ -1,10 +1,10 @@
 -- The entries of an index: the lines that stand under a key, and what entering one more leaves. When two names are the same. Assumes nothing.
---     line_if b k ks         the line k before the lines ks where b holds, else ks
---     lines_with same key es     the lines of the entries es whose key is the same as key, in the order of the entries
+--     line_if b k ks                 the line k before the lines ks where b holds, else ks
+--     lines_with same key es         the lines of the entries es whose key is the same as key, in the order of the entries
 --     Added room used e after n      the entry e stands at the place used of the room, no other place has changed, and n counts one more
---     Kept room used after n     no place was free, and nothing has changed
---     Entered room used e after n r      where the answer r is Ok, the entry was added, and else all was kept
---     same_name text a b      the bytes of the text at the places a and b are the same, with capitals made small
+--     Kept room used after n         no place was free, and nothing has changed
+--     Entered room used e after n r  where the answer r is Ok, the entry was added, and else all was kept
+--     same_name text a b             the bytes of the text at the places a and b are the same, with capitals made small
 use Rattle.std.specs.Prelude.{◌≡◌, ℕ, ◌+◌, ◌<◌, ◌≤◌, Bool, true, false, List, [], ◌∷◌, length, Ok, Err, Result, slice_set}
 use Rattle.std.specs.Str.{bytes_eq}
 use Rattle.forms.specs.Model.{name_at}

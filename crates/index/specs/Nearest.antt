@@ -1,11 +1,11 @@
 -- Which of some lines, given by their numbers, is the nearest above a line, or the nearest up to it. Assumes nothing.
---     lesser k r, greater k r        the lesser, or the greater, of the line k and the line that r holds; k where r holds none
+--     lesser k r, greater k r            the lesser, or the greater, of the line k and the line that r holds; k where r holds none
 --     lesser_if b k r, greater_if b k r  the same in place of r where b says that k counts, and r where it does not
---     nearest_after n ks     the least of the lines ks that is above n, in whatever order they stand
---     nearest_up_to n ks     the greatest of the lines ks that is at most n, in whatever order they stand
---     OneOf k ks             k is one of the lines ks
---     NearestAfter n ks r    r holds a line of ks that is above n, and each line of ks above n is that line or a later one; or r holds none, and no line of ks is above n
---     NearestUpTo n ks r     r holds a line of ks that is at most n, and each line of ks at most n is that line or an earlier one; or r holds none, and every line of ks is above n
+--     nearest_after n ks                 the least of the lines ks that is above n, in whatever order they stand
+--     nearest_up_to n ks                 the greatest of the lines ks that is at most n, in whatever order they stand
+--     OneOf k ks                         k is one of the lines ks
+--     NearestAfter n ks r                r holds a line of ks that is above n, and each line of ks above n is that line or a later one; or r holds none, and no line of ks is above n
+--     NearestUpTo n ks r                 r holds a line of ks that is at most n, and each line of ks at most n is that line or an earlier one; or r holds none, and every line of ks is above n
 use Rattle.std.specs.Prelude.{◌≡◌, ℕ, ◌<◌, ◌≤◌, min, max, Bool, true, false, ◌⊎◌, List, [], ◌∷◌, Some, None, Option, nat_le, nat_lt}
 
 abbrev pub lesser : ℕ → Option ℕ → ℕ
