@@ -1,4 +1,6 @@
 //! Shows a part program from standard input as it was understood, a canonical line for each line, or why it is refused.
+#![tactic(auto)]
+
 mod pieces;
 mod statement;
 
