@@ -5,9 +5,9 @@
 use Rattle.std.proofs.Common.{◌≡◌, true, false, [], ◌∷◌, ℤ, pos, ◌+ℤ◌, ◌-ℤ◌, ◌*ℤ◌, ◌≤ℤ◌, ◌<ℤ◌, MatchBool, sym, refl, ap, ◌∙◌, arith}
 use Rattle.std.proofs.lemmas.Int.{ints}
 use Rattle.algebra.specs.declared.vector.Vector.{Vector}
-use Rattle.algebra.specs.Plane.{dot, cross, ◌−◌, scaled, OnArc, Within, Beyond, side, stays}
+use Rattle.algebra.specs.Plane.{dot, cross, ◌−◌, scaled, Within, Beyond, side, stays}
 use Rattle.algebra.proofs.Tests.{by_less, less}
-use Rattle.algebra.proofs.Polynomials.{Expr, num, var, ◌⊕◌, ◌⊖◌, ◌⊗◌, identity}
+use Rattle.algebra.proofs.Polynomials.{Expr, num, var, ◌⊖◌, ◌⊗◌, identity}
 use Rattle.algebra.proofs.Products.{≡-≤, ≤-≡, ≡-<, <-≡, <-≤, nn_mul, pos_mul, low_mul, square_nn, mul-≤, mul-<, cancel-≤, below_root}
 use Rattle.algebra.proofs.Vectors.{VecE, dot_e, cross_e, ◌−E◌, scaled_e, mirror, v₀, v₁, v₂, scaled_square, scaled_dot, lagrange}
 use Rattle.algebra.proofs.Chord.{chord}

@@ -2,12 +2,11 @@
 use Rattle.std.proofs.Common.{◌≡◌, ℕ, ◌+◌, ◌*◌, ◌^◌, ◌<◌, ℤ, ◌*ℤ◌, ◌∙◌, ap₂, lit<, w32, w64, SFits}
 use lib.Signed.{mag}
 use mir.Syntax.{w128}
-use mir.Val.{hbits}
 use Rattle.std.proofs.lemmas.Int.{to_z-of_z}
 use Rattle.algebra.specs.declared.vector.Vector.{Vector}
-use Rattle.algebra.specs.Plane.{dot, cross}
+use Rattle.algebra.specs.Plane.{dot}
 use Rattle.algebra.specs.Sizes.{Bounded, Short}
-use Rattle.algebra.proofs.Bounded.{Num, bitted, returned, cast, mul_bounded, add_bounded, sub_bounded}
+use Rattle.algebra.proofs.Bounded.{Num, bitted, returned, cast, mul_bounded, add_bounded}
 
 -- `product(a, b) as i128`
 pub product_num : {r : ℤ} (a b : ℤ) → SFits w32 a → SFits w32 b → mag r < 2 ^ 63 → r ≡ bitted w32 a *ℤ bitted w32 b → Num (bitted w128 (bitted w64 r)) (a *ℤ b) (2 ^ 63)

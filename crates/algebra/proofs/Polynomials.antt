@@ -3,8 +3,8 @@
 --     value ρ e          its value where ρ lists the variables' values
 --     Poly, normal e     nested Horner form, and e brought to it
 --     identity ρ l r tt  value ρ l ≡ value ρ r, where the difference of l and r has no coefficient but 0; `tt` is the computed test
-use Rattle.std.proofs.Common.{◌≡◌, ℕ, zero, suc, Bool, true, false, cond, T, List, [], ◌∷◌, ℤ, pos, negsuc, ◌+ℤ◌, ◌-ℤ◌, ◌*ℤ◌, neg_ℤ, sym, refl, ap, ◌∙◌, subst, ap₂, arith}
-use lib.IntN.{*ℤ_comm, +ℤ_comm, +ℤ_assoc, zero-*ℤ, *ℤ-zero, +ℤ_idr, +ℤ_idl}
+use Rattle.std.proofs.Common.{◌≡◌, ℕ, zero, suc, Bool, true, false, cond, T, List, [], ◌∷◌, ℤ, pos, negsuc, ◌+ℤ◌, ◌-ℤ◌, ◌*ℤ◌, neg_ℤ, sym, refl, ap, ◌∙◌, ap₂, arith}
+use lib.IntN.{*ℤ_comm, +ℤ_comm, +ℤ_assoc, *ℤ-zero, +ℤ_idr, +ℤ_idl}
 use Rattle.std.proofs.lemmas.Int.{ints}
 use Rattle.algebra.proofs.Integers.{*-distr, *-assoc, +-distr}
 

@@ -4,9 +4,9 @@
 --     mirror s f                          s reflected at the line through the origin along f, times f·f
 use Rattle.std.proofs.Common.{◌≡◌, [], ◌∷◌, ℤ, pos, ◌+ℤ◌, ◌-ℤ◌, ◌*ℤ◌, ◌≤ℤ◌, ◌<ℤ◌, sym}
 use Rattle.algebra.specs.declared.vector.Vector.{Vector}
-use Rattle.algebra.specs.Plane.{dot, cross, ◌−◌, scaled}
+use Rattle.algebra.specs.Plane.{dot, cross, scaled}
 use Rattle.algebra.proofs.Polynomials.{Expr, num, var, ◌⊕◌, ◌⊖◌, ◌⊗◌, identity}
-use Rattle.algebra.proofs.Products.{<-≡, add_nn, add_pos, pos_mul, pos_left, square_nn}
+use Rattle.algebra.proofs.Products.{<-≡, add_nn, add_pos, pos_left, square_nn}
 
 pub record VecE : Type 0 where
   pub u : Expr

@@ -19,7 +19,7 @@
 --     nearest_by forward n ks    the nearest of the lines ks: above n, or else up to n
 --     same_entries same es fs    the entries es are fs, where keys are compared by same
 --     same_place a b     the places are the same
---     numbers_in ls es, labels_in_lem ls es  es are the entries of the N numbers, or of the labels, of the lines ls of a program
+--     numbers_in ls es, labels_in ls es    es are the entries of the N numbers, or of the labels, of the lines ls of a program
 --     Whole ls ns bs     ns and bs are the entries of all N numbers and of all labels of the lines ls of a program
 use Rattle.std.specs.Prelude.{◌≡◌, ℕ, ◌+◌, Bool, true, false, ◌&&◌, List, [], ◌∷◌, ◌++◌, length, take, drop, Some, None, Ok, Err, Option, Result, ◌==◌, nat_eq}
 use Rattle.std.specs.Option.{option_map}

@@ -11,7 +11,7 @@ use Rattle.lexer.specs.declared.symbols.Opens.{Opens}
 use Rattle.lexer.specs.declared.symbols.Opens.TheVariants.{Name as AName, Word as AWord, Letter as ALetter, Number as ANumber}
 use Rattle.lexer.specs.declared.token.Token as code
 use Rattle.lexer.specs.declared.token.Token.TheVariants.{Name as Named, Word, Letter as Lettered, Number as Numbered, Mark as Marked, Bad, End}
-use Rattle.lexer.proofs.Lengths.{head_at, run_on, run_le, part_length}
+use Rattle.lexer.proofs.Lengths.{head_at, run_on, run_le, part_length_lem}
 
 pub tokens_end : (s : List ℕ) (i : ℕ) → length s ≤ i → tokens s i ≡ []
 unfolding tokens_from
@@ -66,7 +66,7 @@ module _ (s : List ℕ) (i : ℕ) (inside : i < length s) where
       λ j. Some (name (map to_ascii_lowercase (take (n j) (drop i s))) i ((ap is_blank (get_or-drop i s (run in_name (drop i s)) 32 ∙ ap (λ k. get_or s k 32) (sym e)) ∙ sym f) j), run in_name (drop i s))
 
   pub name_placed : (to : ℕ) → i ≤ to → to ≤ length s → take (to - i) (drop i s) ≡ take (length (take (to - i) (drop i s))) (drop i s)
-  name_placed to low high = ap (λ k. take k (drop i s)) (sym (part_length s i to low high))
+  name_placed to low high = ap (λ k. take k (drop i s)) (sym (part_length_lem s i to low high))
 
   pub name_some : starts_name (get_or s i 0) ≡ true → 0 < run in_name (drop i s)
   name_some e = omega (arith, run_on in_name s i inside (ap (λ b. b || is_digit (get_or s i 0)) e))

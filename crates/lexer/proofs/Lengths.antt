@@ -50,8 +50,8 @@ run_digits (c ∷ cs) = all_by (is_digit c) c (run is_digit cs) cs refl (run_dig
 pub digits_from : (s : List ℕ) (a b : ℕ) → b ≡ a + run is_digit (drop a s) → all_digits (take (b - a) (drop a s)) ≡ true
 digits_from s a b e = let n : b - a ≡ run is_digit (drop a s) = omega arith in ap (λ k. all_digits (take k (drop a s))) n ∙ run_digits (drop a s)
 
-pub part_length : (s : List ℕ) (a b : ℕ) → a ≤ b → b ≤ length s → length (take (b - a) (drop a s)) ≡ b - a
-part_length s a b h k = length-take-le (b - a) (drop a s) (omega (arith, length-drop a s))
+pub part_length_lem : (s : List ℕ) (a b : ℕ) → a ≤ b → b ≤ length s → length (take (b - a) (drop a s)) ≡ b - a
+part_length_lem s a b h k = length-take-le (b - a) (drop a s) (omega (arith, length-drop a s))
 
 -- the number whose digits before the point lie from `from` up to `point`
 module _ (s : List ℕ) (from point : ℕ) (is : point ≡ from + run is_digit (drop from s)) (high : point ≤ length s) where
@@ -70,7 +70,7 @@ module _ (s : List ℕ) (from point : ℕ) (is : point ≡ from + run is_digit (
   point_none e = num_is_lem None false e refl
 
   pub end_none : pointed (drop point s) ≡ false → point ≡ from + num_length (num_of (drop from s))
-  end_none e = omega (arith, ap num_length (point_none e), part_length s from point (omega arith) high)
+  end_none e = omega (arith, ap num_length (point_none e), part_length_lem s from point (omega arith) high)
 
   pub pointed_at : (c d : ℕ) → c ≡ get_or s point 0 → d ≡ get_or s (point + 1) 0 → (b : Bool) → pointed (c ∷ d ∷ []) ≡ b → pointed (drop point s) ≡ b
   pointed_at c d e f b h = (λ j. pointed ((head_at s point ∙ sym e) j ∷ (get_or-drop point s 1 0 ∙ sym f) j ∷ [])) ∙ h
@@ -85,4 +85,4 @@ module _ (s : List ℕ) (from point : ℕ) (is : point ≡ from + run is_digit (
     point_some = num_is_lem _ true yes tail
 
     pub end_some : e ≡ from + num_length (num_of (drop from s))
-    end_some = omega (arith, ap num_length point_some, part_length s from point (omega arith) high, part_length s (point + 1) e (omega arith) top)
+    end_some = omega (arith, ap num_length point_some, part_length_lem s from point (omega arith) high, part_length_lem s (point + 1) e (omega arith) top)

@@ -1,4 +1,6 @@
 //! Axes, rows and motions of the machine, and the one refusal type.
+#![tactic(auto)]
+
 mod arc;
 pub mod axes;
 pub mod home;
