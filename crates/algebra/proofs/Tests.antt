@@ -1,4 +1,4 @@
--- What the answer of a test tells: `When r I O` is I where r is true, O where it is false. Assumes nothing.
+-- What the answer of a test tells: `MatchBool r I O` is I where r is true, O where it is false. Assumes nothing.
 --     by_less                      cond of a < test
 --     less, at_most                the test itself
 --     and_told                     two tests, the second asked where the first holds
