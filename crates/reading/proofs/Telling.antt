@@ -4,7 +4,7 @@ use Rattle.std.proofs.lemmas.List.{append_assoc, append-nil, drop-take, take-tak
 use Rattle.lexer.specs.Bytes.{run, in_code}
 use Rattle.lexer.specs.Tokens.{tokens_from}
 use Rattle.lexer.specs.Model.{tokens}
-use Rattle.lexer.proofs.Lengths.{run_le, part_length}
+use Rattle.lexer.proofs.Lengths.{run_le, part_length_lem}
 use Rattle.forms.specs.declared.said.Line.{Line}
 use Rattle.sums.specs.Sums.{Sum}
 use Rattle.forms.specs.Forms.{Named, form_of, line_at}
@@ -90,7 +90,7 @@ module _ (s : List ℕ) (i e k : ℕ) (low : i ≤ e) (high : e ≤ length s) (i
   run_is = ap (run in_code) (cut_from s i e low)
 
   run_few : run in_code (take (e - i) (drop i s)) ≤ e - i
-  run_few = omega (arith, run_le in_code (take (e - i) (drop i s)), part_length s i e low high)
+  run_few = omega (arith, run_le in_code (take (e - i) (drop i s)), part_length_lem s i e low high)
 
   pub code_high : k ≤ length s
   code_high = omega (arith, is, run_is, run_few, low, high)
