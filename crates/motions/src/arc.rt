@@ -21,10 +21,7 @@ impl Arc {
         ensures value { result ≡ closes_is self.now start.now end.now }
     {
         let third = self.plane.w();
-        if start.along(third) != end.along(third) {
-            return false;
-        }
         let square = self.square(start);
-        square == self.square(end) && 0 < square
+        start.along(third) == end.along(third) && square == self.square(end) && 0 < square
     }
 }
