@@ -1,8 +1,8 @@
 -- What a test of range tells. Assumes nothing.
-use Rattle.std.proofs.Common.{◌≡◌, ℕ, true, not, ◌&&◌, ℤ, pos, neg_ℤ, Option, arith}
+use Rattle.std.proofs.Common.{◌≡◌, ℕ, true, not, ◌&&◌, ℤ, pos, ◌*ℤ◌, neg_ℤ, Option, refl, arith}
 use lib.Signed.{le_z}
 use Rattle.std.proofs.lemmas.Int.{ints}
-use Rattle.std.proofs.lemmas.Bool.{and_parts}
+use Rattle.std.proofs.lemmas.Bool.{and_parts, and_from}
 use Rattle.algebra.specs.Sizes.{Bounded, Short}
 use Rattle.motions.specs.declared.axes.Axis.{Axis}
 use Rattle.motions.specs.declared.axes.Axis.TheVariants.{X, Y, Z}
@@ -17,7 +17,9 @@ use Rattle.motions.specs.Axes.{coordinate, u_axis, v_axis, w_axis, flat}
 use Rattle.motions.specs.Ranges.{within, each_within, present_within, position_range, centre_range, factor_range, edge_range}
 use Rattle.motions.specs.Motions.{level, arc_in_range, centre_in_range, row_in_range}
 use Rattle.geometry.specs.Settings.{all_zero, edge_taken, each_present_within, box_taken}
-use Rattle.geometry.specs.Deciding.{centre_rise}
+use Rattle.geometry.specs.declared.limit_box.side.Side.{Side}
+use Rattle.geometry.specs.declared.limit_box.side.Side.TheVariants.{Lower, Upper}
+use Rattle.geometry.specs.Deciding.{centre_rise, unit, factor, limit_on}
 
 pub bounded : (b : ℕ) (z : ℤ) → within b z ≡ true → Bounded b z
 bounded b z h = let p = and_parts (le_z (neg_ℤ (pos b)) z) (le_z z (pos b)) h in omega (arith, ints, p.0, p.1)
@@ -71,8 +73,22 @@ present_at t a h = at a
     at Y = (and_parts (present_within position_range t.y) (present_within position_range t.z) rest).0
     at Z = (and_parts (present_within position_range t.y) (present_within position_range t.z) rest).1
 
-pub lower_within : (l : Limits) (a : Axis) → box_taken l ≡ true → present_within position_range (coordinate a l.lower) ≡ true
-lower_within l a h = present_at l.lower a (and_parts (each_present_within l.lower) (each_present_within l.upper) h).0
+pub limit_within : (side : Side) (l : Limits) (a : Axis) → box_taken l ≡ true → present_within position_range (limit_on side a l) ≡ true
+limit_within Lower l a h = present_at l.lower a (and_parts (each_present_within l.lower) (each_present_within l.upper) h).0
+limit_within Upper l a h = present_at l.upper a (and_parts (each_present_within l.lower) (each_present_within l.upper) h).1
 
-pub upper_within : (l : Limits) (a : Axis) → box_taken l ≡ true → present_within position_range (coordinate a l.upper) ≡ true
-upper_within l a h = present_at l.upper a (and_parts (each_present_within l.lower) (each_present_within l.upper) h).1
+-- a limit in range makes an edge, on either side
+pub limit_taken : (side : Side) (a : Axis) (v : ℤ) → within position_range v ≡ true → edge_taken (unit a (factor side)) (factor side *ℤ v) ≡ true
+limit_taken side a v h = and_from _ _ (direction side a).0 (and_from _ _ (direction side a).1 (near side (bounded position_range v h)))
+  where
+    direction : (side : Side) (a : Axis) → (each_within factor_range (unit a (factor side)) ≡ true) × (not (all_zero (unit a (factor side))) ≡ true)
+    direction Lower X = (refl, refl)
+    direction Lower Y = (refl, refl)
+    direction Lower Z = (refl, refl)
+    direction Upper X = (refl, refl)
+    direction Upper Y = (refl, refl)
+    direction Upper Z = (refl, refl)
+
+    near : (side : Side) → Bounded position_range v → within edge_range (factor side *ℤ v) ≡ true
+    near Lower k = grind (arith, ints)
+    near Upper k = grind (arith, ints)

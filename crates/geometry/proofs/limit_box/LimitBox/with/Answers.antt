@@ -5,15 +5,16 @@ use Rattle.motions.specs.declared.axes.Axis.{Axis}
 use Rattle.motions.specs.declared.axes.Axis.TheVariants.{X, Y, Z}
 use Rattle.motions.specs.declared.axes.Axes.{Axes}
 use Rattle.motions.specs.declared.limits.Limits.{Limits}
+use Rattle.motions.specs.Axes.{set_on}
 use Rattle.motions.specs.Ranges.{present_within, position_range}
-use Rattle.geometry.specs.Settings.{each_present_within, box_taken, replaced, with_limit}
+use Rattle.geometry.specs.Settings.{each_present_within, box_taken, with_limit}
 use Rattle.geometry.proofs.limit_box.LimitBox.with.Goals as goal
 
-side : (a : Axis) (o : Option ℤ) (t : Axes (Option ℤ)) → present_within position_range o ≡ true → each_present_within t ≡ true → each_present_within (replaced a o t) ≡ true
+side : (a : Axis) (o : Option ℤ) (t : Axes (Option ℤ)) → present_within position_range o ≡ true → each_present_within t ≡ true → each_present_within (set_on a o t) ≡ true
 side a o t h all =
     let p = and_parts (present_within position_range t.x) (present_within position_range t.y && present_within position_range t.z) all in
     let q = and_parts (present_within position_range t.y) (present_within position_range t.z) p.1 in
-    elim a as (λ b. each_present_within (replaced b o t) ≡ true) [
+    elim a as (λ b. each_present_within (set_on b o t) ≡ true) [
       | X ↦ and_from _ _ h p.1
       | Y ↦ and_from _ _ p.0 (and_from _ _ h q.1)
       | Z ↦ and_from _ _ p.0 (and_from _ _ q.0 h)
@@ -29,5 +30,5 @@ stays_taken upper a o l h all =
 
 pub invariant_of-result : goal.invariant_of-result
 invariant_of-result c =
-    let fits : present_within position_range c.args.limit ≡ true = sym c.present_within.ensures.value ∙ c.if-not-present_within.false in
+    let fits : present_within position_range c.args.limit ≡ true = sym c.within.ensures.value ∙ c.if-not-within.false in
     record { taken = ap box_taken c.with_limit-limits.ensures.value ∙ stays_taken c.args.upper c.args.axis c.args.limit c.args.self.now.limits fits c.args.self.now.taken }
