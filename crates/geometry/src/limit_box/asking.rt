@@ -1,7 +1,7 @@
 //! A box asks each of its limits as an edge whose normal is the direction of an axis.
 ghost use Rattle.std.specs.Prelude.{◌≡◌};
 ghost use Rattle.geometry.specs.Areas.{InBox};
-ghost use Rattle.geometry.specs.Deciding.{factor, limit_on, keeps_limit, keeps_axis, keeps_box};
+ghost use Rattle.geometry.specs.Deciding.{limit_on, keeps_limit, keeps_axis, keeps_box};
 ghost use Rattle.geometry.specs.Model.{limits_of};
 ghost use Rattle.motions.specs.Model.{row_of};
 
@@ -11,18 +11,6 @@ use crate::area::Area;
 use crate::edge::Edge;
 use motions::axes::{Axes, Axis};
 use motions::motion::Motion;
-
-impl Side {
-    /// A coordinate keeps a limit of this side where it is at most that, both times the factor.
-    fn factor(self) -> i32
-        ensures value { result ≡ factor self }
-    {
-        match self {
-            Side::Lower => -1,
-            Side::Upper => 1,
-        }
-    }
-}
 
 impl LimitBox {
     fn limit(&self, side: Side, axis: Axis) -> Option<i32>
