@@ -136,10 +136,12 @@ fn half_circle_up_to_a_limit_at_its_ends(rt: HostRuntime) -> Result<(), Fail> {
     let above = arc(Plane::XY, Turn::Counterclockwise, start, end, 0, 0)?;
     let below = arc(Plane::XY, Turn::Clockwise, start, end, 0, 0)?;
     assert!(rt;
-        from_to(Axis::Y, Some(0), None)?.admits(&above) && !from_to(Axis::Y, Some(0), None)?.admits(&below)
+        from_to(Axis::Y, Some(0), None)?.admits(&above)
+            && !from_to(Axis::Y, Some(0), None)?.admits(&below)
     );
     assert!(rt;
-        from_to(Axis::Y, None, Some(0))?.admits(&below) && !from_to(Axis::Y, None, Some(0))?.admits(&above)
+        from_to(Axis::Y, None, Some(0))?.admits(&below)
+            && !from_to(Axis::Y, None, Some(0))?.admits(&above)
     );
     assert!(rt; !from_to(Axis::Y, Some(1), None)?.admits(&above));
     Ok(())

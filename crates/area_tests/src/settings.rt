@@ -108,7 +108,8 @@ fn settings_out_of_range(rt: HostRuntime) {
 fn empty_box(rt: HostRuntime) -> Result<(), Fail> {
     let still = motion(PathKind::Rapid, at(0, 0, 0), at(0, 0, 0))?;
     assert!(rt;
-        !from_to(Axis::X, Some(1), Some(-1))?.admits(&still) && from_to(Axis::X, None, None)?.admits(&still)
+        !from_to(Axis::X, Some(1), Some(-1))?.admits(&still)
+            && from_to(Axis::X, None, None)?.admits(&still)
     );
     Ok(())
 }
