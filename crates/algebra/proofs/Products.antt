@@ -4,6 +4,7 @@
 --     mul-≤, mul-<, cancel-≤      a common factor
 --     below_root, between         what a square and a product tell of their factors
 use Rattle.std.proofs.Common.{◌≡◌, zero, suc, [], ◌∷◌, ℤ, pos, negsuc, ◌+ℤ◌, ◌-ℤ◌, ◌*ℤ◌, ◌≤ℤ◌, ◌<ℤ◌, arith}
+use Rattle.std.specs.Int.Signed.{clash_ℤ}
 use Rattle.std.proofs.lemmas.Int.{ints, by_lt_z}
 use Rattle.algebra.proofs.Polynomials.{num, var, ◌⊕◌, ◌⊖◌, ◌⊗◌, identity}
 
@@ -21,9 +22,6 @@ pub <-≡ : {a b c : ℤ} → a <ℤ b → b ≡ c → a <ℤ c
 
 pub <-≤ : {a b : ℤ} → a <ℤ b → a ≤ℤ b
 <-≤ {a} {b} h = omega (arith, ints)
-
-pub no_both : {a b : ℤ} → a <ℤ b → b ≤ℤ a → ⊥
-no_both {a} {b} h k = omega (arith, ints)
 
 pub add_nn : {a b : ℤ} → pos 0 ≤ℤ a → pos 0 ≤ℤ b → pos 0 ≤ℤ (a +ℤ b)
 add_nn {a} {b} h k = omega (arith, ints)
@@ -65,7 +63,7 @@ mul-< k {a} {b} hk h =
     (identity (k ∷ a ∷ b ∷ []) (var 0 ⊗ (var 2 ⊖ var 1)) (var 0 ⊗ var 2 ⊖ var 0 ⊗ var 1) tt)
 
 pub cancel-≤ : (k a b : ℤ) → pos 0 <ℤ k → (k *ℤ a) ≤ℤ (k *ℤ b) → a ≤ℤ b
-cancel-≤ k a b hk h = by_lt_z b a (λ lt. absurd (no_both (mul-< k hk lt) h)) (λ le. le)
+cancel-≤ k a b hk h = by_lt_z b a (λ lt. clash_ℤ (mul-< k hk lt) h) (λ le. le)
 
 pub low_mul : (a b : ℤ) → pos 0 ≤ℤ a → b ≤ℤ pos 0 → (a *ℤ b) ≤ℤ pos 0
 low_mul a b h g = ≤-≡ (mul-≤ a h g) (identity (a ∷ []) (var 0 ⊗ num (pos 0)) (num (pos 0)) tt)
@@ -81,7 +79,7 @@ pos_left (negsuc a) b h k = absurd k.le
 pub below_root : (a b : ℤ) → (a *ℤ a) ≤ℤ (b *ℤ b) → pos 0 ≤ℤ b → a ≤ℤ b
 below_root a b h k =
     by_lt_z b a
-    (λ lt. absurd (no_both (from_diff-< (pos_mul (a -ℤ b) (a +ℤ b) (omega (arith, ints)) (omega (arith, ints))) (identity (a ∷ b ∷ []) ((var 0 ⊖ var 1) ⊗ (var 0 ⊕ var 1)) (var 0 ⊗ var 0 ⊖ var 1 ⊗ var 1) tt)) h))
+    (λ lt. clash_ℤ (from_diff-< (pos_mul (a -ℤ b) (a +ℤ b) (omega (arith, ints)) (omega (arith, ints))) (identity (a ∷ b ∷ []) ((var 0 ⊖ var 1) ⊗ (var 0 ⊕ var 1)) (var 0 ⊗ var 0 ⊖ var 1 ⊗ var 1) tt)) h)
     (λ le. le)
 
 -- t·(t − w) is not above 0, w being above 0: t lies from 0 to w
@@ -92,4 +90,4 @@ between t w m hw hm h = (
 )
   where
     apart : pos 0 <ℤ (t *ℤ (t -ℤ w)) → ⊥
-    apart p = no_both (pos_mul (t *ℤ (t -ℤ w)) m p hm) h
+    apart p = clash_ℤ (pos_mul (t *ℤ (t -ℤ w)) m p hm) h

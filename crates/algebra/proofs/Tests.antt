@@ -6,7 +6,7 @@
 use Rattle.std.proofs.Common.{◌≡◌, Bool, true, false, cond, ◌&&◌, ℤ, ◌≤ℤ◌, ◌<ℤ◌, MatchBool, refl, arith}
 use lib.Signed.{lt_z, le_z}
 use Rattle.std.proofs.lemmas.Int.{ints}
-use Rattle.std.proofs.lemmas.Bool.{and_parts}
+use Rattle.std.proofs.lemmas.Bool.{and_parts, cond_both}
 
 module _ (I O : Type 0) where
   -- by the two answers of any test
@@ -14,12 +14,9 @@ module _ (I O : Type 0) where
   told true f g = f refl
   told false f g = g refl
 
-  chosen : (t x y : Bool) → (t ≡ true → MatchBool x I O) → (t ≡ false → MatchBool y I O) → MatchBool (cond t x y) I O
-  chosen true x y f g = f refl
-  chosen false x y f g = g refl
-
   pub by_less : (a b : ℤ) (x y : Bool) → (a <ℤ b → MatchBool x I O) → (b ≤ℤ a → MatchBool y I O) → MatchBool (cond (lt_z a b) x y) I O
-  by_less a b x y f g = chosen (lt_z a b) x y (λ e. f (omega (arith, ints))) (λ e. g (omega (arith, ints)))
+  by_less a b x y f g =
+      cond_both (lt_z a b) x y (λ z. MatchBool z I O) (λ e. f (omega (arith, ints))) (λ e. g (omega (arith, ints)))
 
   pub less : (a b : ℤ) → (a <ℤ b → I) → (b ≤ℤ a → O) → MatchBool (lt_z a b) I O
   less a b f g = told (lt_z a b) (λ e. f (omega (arith, ints))) (λ e. g (omega (arith, ints)))

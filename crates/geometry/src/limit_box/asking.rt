@@ -13,6 +13,7 @@ use motions::axes::{Axes, Axis};
 use motions::motion::Motion;
 
 impl LimitBox {
+    /// The limit of an axis on a side.
     fn limit(&self, side: Side, axis: Axis) -> Option<i32>
         ensures value { result ≡ limit_on side axis (limits_of self.now) }
     {
@@ -22,6 +23,7 @@ impl LimitBox {
         }
     }
 
+    /// Whether a motion keeps that limit, where there is one.
     fn keeps_limit(&self, side: Side, axis: Axis, motion: &Motion) -> bool
         ensures value { result ≡ keeps_limit side axis (limit_on side axis (limits_of self.now)) (row_of motion.now) }
     {
@@ -38,12 +40,14 @@ impl LimitBox {
         }
     }
 
+    /// Whether it keeps both limits of an axis.
     fn keeps_axis(&self, axis: Axis, motion: &Motion) -> bool
         ensures value { result ≡ keeps_axis (limits_of self.now) axis (row_of motion.now) }
     {
         self.keeps_limit(Side::Lower, axis, motion) && self.keeps_limit(Side::Upper, axis, motion)
     }
 
+    /// Whether it keeps all limits.
     fn keeps(&self, motion: &Motion) -> bool
         ensures value { result ≡ keeps_box (limits_of self.now) (row_of motion.now) }
     {
