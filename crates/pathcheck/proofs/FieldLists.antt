@@ -1,17 +1,15 @@
 -- The fields of a line, from its front. Assumes nothing.
-use Rattle.std.proofs.Common.{◌≡◌, ℕ, suc, ◌+◌, ◌<◌, Bool, true, false, cond, not, List, [], ◌∷◌, length, get_or, take, drop, sym, refl, ap, ◌∙◌, ⊎_elim, arith, drop-cons}
+use Rattle.std.proofs.Common.{◌≡◌, ℕ, suc, ◌+◌, Bool, true, false, cond, not, List, [], ◌∷◌, length, get_or, position, unwrap_or, Some, None, take, drop, sym, refl, ap, ◌∙◌, ⊎_elim, arith, drop-cons}
 use Rattle.std.specs.List.{position_or_len}
-use Rattle.std.proofs.lemmas.Bool.{cases_Bool}
+use Rattle.std.proofs.lemmas.Bool.{cases_Bool, not-true}
+use Rattle.std.proofs.lemmas.Bool.Decides.{nat_tests}
 use Rattle.std.proofs.lemmas.List.{drop_all}
-use Rattle.std.proofs.lemmas.List.Sums.{passes_at_first}
+use Rattle.std.proofs.lemmas.List.Sums.{prefix_len-le-length, position_or_len_is}
+use Rattle.std.proofs.lemmas.List.Quantifiers.{position-Some}
 use Rattle.pathcheck.specs.Fields.{is_blank, opens, joined, fields}
 
 abbrev in_field : ℕ → Bool
 in_field b = not (is_blank b)
-
-not_true : (b : Bool) → not b ≡ true → b ≡ false
-not_true true h = cc
-not_true false h = refl
 
 -- blanks in front change nothing
 skipped : (s : List ℕ) → fields (drop (position_or_len in_field s) s) ≡ fields s
@@ -45,19 +43,27 @@ opened b (c ∷ s) nb =
     (cases_Bool (is_blank c))
 
 -- a line of blanks has no field
-pub no_field : (s : List ℕ) → length s ≡ position_or_len in_field s → fields s ≡ []
+pub no_field : (s : List ℕ) → None ≡ position (λ b. not (is_blank b)) s → fields s ≡ []
 unfolding fields
-no_field s h = sym (skipped s) ∙ ap (λ k. fields (drop k s)) (sym h) ∙ ap fields (drop_all (length s) s (omega arith))
+no_field s h =
+    let all : length s ≡ position_or_len in_field s = grind (arith, nat_tests, prefix_len-le-length (λ b. not (in_field b)) s) in
+    sym (skipped s) ∙ ap (λ k. fields (drop k s)) (sym all) ∙ ap fields (drop_all (length s) s (omega arith))
 
 -- the first field, and what follows it
-pub first_field : (s : List ℕ) (i : ℕ) → i ≡ position_or_len in_field s → i < length s → fields s ≡ take (position_or_len is_blank (drop i s)) (drop i s) ∷ fields (drop (position_or_len is_blank (drop i s)) (drop i s))
-first_field s i e l =
+pub first_field : (s : List ℕ) (i : ℕ) → Some i ≡ position (λ b. not (is_blank b)) s → fields s ≡ take (position_or_len is_blank (drop i s)) (drop i s) ∷ fields (drop (position_or_len is_blank (drop i s)) (drop i s))
+first_field s i h =
+    let found = position-Some in_field s i 0 (sym h) in
+    let e : position_or_len in_field s ≡ i = position_or_len_is in_field s i 0 (omega arith) found.2 (λ l. found.1) in
     let b = get_or s i 0 in
     let more = drop (suc i) s in
     let n = position_or_len is_blank more in
     let next : 1 + n ≡ suc n = omega arith in
-    let there : drop i s ≡ b ∷ more = drop-cons s i 0 l in
-    let nb : is_blank b ≡ false = not_true (is_blank b) (ap (λ k. in_field (get_or s k 0)) e ∙ passes_at_first in_field s 0 (omega arith)) in
-    sym (skipped s) ∙ ap (λ k. fields (drop k s)) (sym e) ∙ ap fields there ∙ opened b more nb
+    let there : drop i s ≡ b ∷ more = drop-cons s i 0 found.0 in
+    let nb : is_blank b ≡ false = not-true (is_blank b) found.1 in
+    sym (skipped s) ∙ ap (λ k. fields (drop k s)) e ∙ ap fields there ∙ opened b more nb
     ∙ sym (λ j. take (cond (not (nb j)) (next j) 0) (b ∷ more) ∷ fields (drop (cond (not (nb j)) (next j) 0) (b ∷ more)))
     ∙ sym (ap (λ (t : List ℕ). take (position_or_len is_blank t) t ∷ fields (drop (position_or_len is_blank t) t)) there)
+
+-- a place that is looked for, or else the length
+pub found_or_len : (s : List ℕ) → unwrap_or (position is_blank s) (length s) ≡ position_or_len is_blank s
+found_or_len s = grind (arith, nat_tests, prefix_len-le-length (λ b. not (is_blank b)) s)

@@ -1,7 +1,6 @@
 //! The fields of a line, and the numbers that they spell.
-ghost use Rattle.std.specs.Prelude.{◌≡◌, ◌<◌, ◌≤ℤ◌, pos, not, position, IfSome};
+ghost use Rattle.std.specs.Prelude.{◌≡◌, ◌≤ℤ◌, pos, not, position, IfSome};
 ghost use Rattle.std.specs.Iterator.{YieldsFirstRef, item_count};
-ghost use Rattle.std.specs.List.{position_or_len};
 ghost use Rattle.std.specs.Option.{option_map};
 ghost use Rattle.pathcheck.specs.Fields.{is_blank, fields, digits_of, number_of};
 
@@ -21,13 +20,11 @@ fn field_start(line: &[u8]) -> Option<usize>
     line.iter().position(|b| !is_blank(*b))
 }
 
-/// Where the first blank stands, or the line's length where there is none.
-fn field_end(line: &[u8]) -> usize
-    ensures value { result ≡ position_or_len is_blank line.now }
+/// Where the first blank stands, if there is one.
+fn field_end(line: &[u8]) -> Option<usize>
+    ensures value { result ≡ position is_blank line.now }
 {
-    line.iter()
-        .position(|b| is_blank(*b))
-        .unwrap_or(line.len())
+    line.iter().position(|b| is_blank(*b))
 }
 
 /// The fields of a line, or of what is left of it.
@@ -44,7 +41,7 @@ impl<'a> Iterator for Fields<'a> {
     fn next(&mut self) -> Option<&'a [u8]> {
         let start = field_start(self.0)?;
         let (_, line) = self.0.split_at(start);
-        let (field, rest) = line.split_at(field_end(line));
+        let (field, rest) = line.split_at(field_end(line).unwrap_or(line.len()));
         self.0 = rest;
         Some(field)
     }

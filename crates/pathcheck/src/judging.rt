@@ -1,9 +1,9 @@
 //! The answer to a line.
-ghost use Rattle.std.specs.Prelude.{◌≡◌};
-ghost use Rattle.std.specs.Result.{result_map};
+ghost use Rattle.std.specs.Prelude.{◌≡◌, Some, MatchResult};
 ghost use Rattle.motions.specs.Model.{row_of};
 ghost use Rattle.pathcheck.specs.declared.judging.Unjudged.TheVariants.{Refused};
 ghost use Rattle.pathcheck.specs.Judging.{row_asked, Judged};
+ghost use Rattle.pathcheck.specs.Written.{verdict_text, unjudged_text, answer_text};
 
 use crate::line::{Asked, said};
 use geometry::area::Area;
@@ -47,24 +47,30 @@ pub struct Answer {
 }
 
 impl fmt::Display for Verdict {
+    ghost output = { λ v. Some (verdict_text v) };
+
     fn fmt<W: fmt::Write>(&self, f: &mut fmt::Formatter<W>) -> fmt::Result {
         match self {
-            Verdict::Inside => write!(f, "inside"),
-            Verdict::Outside => write!(f, "outside"),
+            Self::Inside => write!(f, "inside"),
+            Self::Outside => write!(f, "outside"),
         }
     }
 }
 
 impl fmt::Display for Unjudged {
+    ghost output = { λ w. Some (unjudged_text w) };
+
     fn fmt<W: fmt::Write>(&self, f: &mut fmt::Formatter<W>) -> fmt::Result {
         match self {
-            Unjudged::Refused(reason) => write!(f, "refused {reason}"),
-            Unjudged::Unreadable => write!(f, "unreadable"),
+            Self::Refused(reason) => write!(f, "refused {reason}"),
+            Self::Unreadable => write!(f, "unreadable"),
         }
     }
 }
 
 impl fmt::Display for Answer {
+    ghost output = { λ a. Some (answer_text a.verdict) };
+
     fn fmt<W: fmt::Write>(&self, f: &mut fmt::Formatter<W>) -> fmt::Result {
         match self.verdict {
             Ok(verdict) => write!(f, "{verdict}"),
@@ -75,7 +81,7 @@ impl fmt::Display for Answer {
 
 /// The motion that a line asks for, from a position.
 fn motion_asked(position: &Position, line: &[u8]) -> Result<Motion, Unjudged>
-    ensures value { result_map row_of result ≡ row_asked position.now line.now }
+    ensures value { MatchResult result (λ motion. row_asked position.now line.now ≡ Ok (row_of motion)) (λ unjudged. row_asked position.now line.now ≡ Err unjudged) }
 {
     let Asked { kind, end } = said(line).ok_or(Unjudged::Unreadable)?;
     let motion = Motion::from_row(&Row {

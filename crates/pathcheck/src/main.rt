@@ -13,6 +13,7 @@ use std::io::{BufRead, BufReader};
 fn main(rt: HostRuntime) -> io::Result<()> {
     let area = fixed_area();
     let mut position = home().position();
+    // Both counts are printed after the loop too, and stay at the greatest number rather than wrap, so no `enumerate`.
     let mut motions: u64 = 0;
     let mut inside: u64 = 0;
     for line in BufReader::new(rt.alloc(), rt.stdin())?.split(rt.alloc(), b'\n') {
