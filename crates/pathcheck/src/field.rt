@@ -13,6 +13,8 @@ fn is_blank(byte: u8) -> bool
     matches!(byte, b'\t' | b'\r' | b' ')
 }
 
+// What `position` gives is known to a proof only as the result of a function of its own, so each of these two has one.
+
 /// Where the first field begins, if there is one.
 fn field_start(line: &[u8]) -> Option<usize>
     ensures value { result ≡ position (λ b. not (is_blank b)) line.now }
@@ -27,7 +29,7 @@ fn field_end(line: &[u8]) -> Option<usize>
     line.iter().position(|b| is_blank(*b))
 }
 
-/// The fields of a line, or of what is left of it.
+/// The fields of a line, or of what is left of it. A type of its own, since a chain of closures has no name by which functions could take it.
 #[derive(Drop)]
 pub struct Fields<'a>(pub &'a [u8]);
 

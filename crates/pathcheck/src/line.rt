@@ -98,10 +98,7 @@ fn straight(kind: PathKind, mut left: Fields<'_>) -> Option<Asked>
     ensures value { (f : List ℕ) → result ≡ straight_of kind (f ∷ fields left.entry.0.now) }
 {
     let end = next_position(&mut left)?;
-    match left.next() {
-        None => Some(Asked { kind, end }),
-        Some(_) => None,
-    }
+    left.next().is_none().then_some(Asked { kind, end })
 }
 
 /// What A or C asks for, where a plane, an end and a centre and no more follow.
@@ -116,10 +113,7 @@ fn curve(turn: Turn, mut left: Fields<'_>) -> Option<Asked>
         turn,
         centre,
     });
-    match left.next() {
-        None => Some(Asked { kind, end }),
-        Some(_) => None,
-    }
+    left.next().is_none().then_some(Asked { kind, end })
 }
 
 /// The motion that a line asks for, where it is of the form.

@@ -18,7 +18,6 @@ overflow_mul-value c = let h : c.loop-b.value < 100000000 = ten_most c.loop-b.va
 pub overflow_add-value : goal.overflow_add-value
 overflow_add-value c =
     let h : c.loop-b.value < 100000000 = ten_most c.loop-b.value c.loop-b.b-index 8 c.loop-b.invariant.below (omega arith) in
-    let d : c.from.result < 10 = omega (arith, c.from.ensures, c.if-not-is_ascii_digit.ensures.cases) in
     search rules
 
 pub loop-b-preserved : goal.loop-b-preserved
