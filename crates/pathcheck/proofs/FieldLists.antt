@@ -1,5 +1,5 @@
 -- The fields of a line, from its front. Assumes nothing.
-use Rattle.std.proofs.Common.{◌≡◌, ℕ, suc, ◌+◌, Bool, true, false, cond, not, List, [], ◌∷◌, length, get_or, position, unwrap_or, Some, None, take, drop, sym, refl, ap, ◌∙◌, ⊎_elim, arith, drop-cons}
+use Rattle.std.proofs.Common.{◌≡◌, ℕ, suc, ◌+◌, ◌≤◌, Bool, true, false, cond, not, List, [], ◌∷◌, length, get_or, position, unwrap_or, Some, None, Option, take, drop, sym, refl, ap, ◌∙◌, ⊎_elim, arith, drop-cons}
 use Rattle.std.specs.List.{position_or_len}
 use Rattle.std.proofs.lemmas.Bool.{cases_Bool, not-true}
 use Rattle.std.proofs.lemmas.Bool.Decides.{nat_tests}
@@ -64,6 +64,10 @@ first_field s i h =
     ∙ sym (λ j. take (cond (not (nb j)) (next j) 0) (b ∷ more) ∷ fields (drop (cond (not (nb j)) (next j) 0) (b ∷ more)))
     ∙ sym (ap (λ (t : List ℕ). take (position_or_len is_blank t) t ∷ fields (drop (position_or_len is_blank t) t)) there)
 
--- a place that is looked for, or else the length
-pub found_or_len : (s : List ℕ) → unwrap_or (position is_blank s) (length s) ≡ position_or_len is_blank s
-found_or_len s = grind (arith, nat_tests, prefix_len-le-length (λ b. not (is_blank b)) s)
+-- a field that ends at the first blank, or else with the line
+pub field_ends : (s : List ℕ) (found : Option ℕ) (end : ℕ) → end ≡ unwrap_or found (length s) → found ≡ position is_blank s → (end ≡ position_or_len is_blank s) × (end ≤ length s)
+field_ends s found end e h =
+    let most : position_or_len is_blank s ≤ length s = prefix_len-le-length (λ b. not (is_blank b)) s in
+    let whole : unwrap_or (position is_blank s) (length s) ≡ position_or_len is_blank s = grind (arith, nat_tests, most) in
+    let is = e ∙ ap (λ o. unwrap_or o (length s)) h ∙ whole in
+    (is, omega (arith, is))
