@@ -36,10 +36,10 @@ Stands C m (Ok inside) = Inside C m
 Stands C m (Ok outside) = Outside C m
 Stands C m (Err why) = ⊥
 
--- where no motion is asked for, the position stays
-abbrev pub Answered : (Point → Type 0) → Axes ℤ → Result Row Unjudged → Result Verdict Unjudged → Axes ℤ → Type 0
-Answered C at (Ok m) v p = Stands C m v × (p ≡ m.end)
-Answered C at (Err why) v p = (v ≡ Err why) × (p ≡ at)
+-- what is answered where a motion is asked for, and where none is: then the position stays
+abbrev pub Follows : (Point → Type 0) → Axes ℤ → Result Row Unjudged → Result Verdict Unjudged → Axes ℤ → Type 0
+Follows C at (Ok m) v p = Stands C m v × (p ≡ m.end)
+Follows C at (Err why) v p = (v ≡ Err why) × (p ≡ at)
 
 abbrev pub Judged : (Point → Type 0) → Axes ℤ → List ℕ → Result Verdict Unjudged → Axes ℤ → Type 0
-Judged C at s v p = Answered C at (row_asked at s) v p
+Judged C at s v p = Follows C at (row_asked at s) v p

@@ -29,7 +29,8 @@ fn field_end(line: &[u8]) -> Option<usize>
     line.iter().position(|b| is_blank(*b))
 }
 
-/// The fields of a line, or of what is left of it. A type of its own, since a chain of closures has no name by which functions could take it.
+/// The fields of a line, or of what is left of it.
+// A type of its own, since a chain of closures has no name by which functions could take it.
 #[derive(Drop)]
 pub struct Fields<'a>(pub &'a [u8]);
 
