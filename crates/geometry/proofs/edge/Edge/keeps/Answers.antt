@@ -1,4 +1,4 @@
-use Rattle.std.proofs.Common.{◌≡◌, true, sym, ap, ◌∙◌}
+use Rattle.std.proofs.Common.{sym, ap, ◌∙◌}
 use Rattle.motions.specs.Motions.{centre_in_range, row_in_range}
 use Rattle.geometry.proofs.InRange.{row_parts}
 use Rattle.geometry.proofs.edge.Edge.keeps.Goals as goal

@@ -1,4 +1,4 @@
-use Rattle.std.proofs.Common.{◌≡◌, true, ℤ, ◌-ℤ◌, sym, ap, ◌∙◌, subst, lit<, w32}
+use Rattle.std.proofs.Common.{◌≡◌, ℤ, ◌-ℤ◌, sym, ap, ◌∙◌, subst, lit<, w32}
 use mir.Syntax.{w128}
 use Rattle.algebra.specs.declared.vector.Vector.{Vector}
 use Rattle.algebra.specs.Plane.{stays}

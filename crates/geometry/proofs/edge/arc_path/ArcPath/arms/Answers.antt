@@ -1,4 +1,4 @@
-use Rattle.std.proofs.Common.{◌≡◌, true, ℤ, ◌-ℤ◌, ap, lit<, w32}
+use Rattle.std.proofs.Common.{◌≡◌, true, ℤ, ap, lit<, w32}
 use Rattle.algebra.specs.declared.vector.Vector.{Vector}
 use Rattle.algebra.proofs.Bounded.{Num, bitted, given, cast, sub, sub_fits, computed}
 use Rattle.algebra.proofs.Vectors.{same_vector}
