@@ -48,7 +48,8 @@ impl ArcAndHalfPlane {
             return self.start.cross(self.end) > 0;
         }
         if limit * limit < self.start.dot(self.start) * self.normal.dot(self.normal) {
-            return product_is_positive(self.start.cross(self.normal), self.side());
+            let mirrored = self.side();
+            return product_is_positive(self.start.cross(self.normal), mirrored);
         }
         true
     }

@@ -53,7 +53,7 @@ returns-then-limit-dot c =
     let near = tested (add w128 S D (lit< tt)).is refl c.if-at_start-limit-lt0.false in
     let cuts = tested (mul w128 D D (lit< tt)).is (mul w128 (radius a.posed c.dot-2.ensures.value) (slope a.posed c.dot-3.ensures.value) (lit< tt)).is c.if-limit-dot.true in
     let across = (returned w128 c.cross-then-limit-dot.type_inv c.cross-then-limit-dot.ensures.value).is in
-    let mirrored = (returned w128 c.side.type_inv c.side.ensures.value).is in
+    let mirrored = (returned w128 c.side-mirrored.type_inv c.side-mirrored.ensures.value).is in
     record { value = c.product_is_positive.ensures.value ∙ ap₂ (λ (x y : ℤ). lt_z (pos 0) (x *ℤ y)) across mirrored ∙ sym (by_mirror a.start a.end a.normal a.limit in_s in_e near true cuts) }
 
 pub returns : goal.returns
