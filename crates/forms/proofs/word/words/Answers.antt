@@ -6,30 +6,30 @@ use Rattle.forms.proofs.word.words.Goals as goal
 
 pub returns-in_err-w : goal.returns-in_err-w
 returns-in_err-w c =
-    let s = c.args.line.now in
+    let s = c.args.c.line.now in
     record {
       value =
-          c.loop-all.invariant None (λ f h. no_word s c.loop-all.all c.loop-all.p f (omega arith) c.loop-all-test.ensures.value c.in_err-w.ensures.value)
+          c.loop-place.invariant.said None (λ f h. no_word s c.loop-place.all c.loop-place.place f (omega arith) c.loop-place-test.ensures.value c.in_err-w.ensures.value)
           ∙ ap (option_map (words_is s)) (sym c.from_residual.ensures);
     }
 
 pub returns-in_err-all : goal.returns-in_err-all
 returns-in_err-all c =
-    let s = c.args.line.now in
+    let s = c.args.c.line.now in
     record {
       value =
-          c.loop-all.invariant None (λ f h. one_word_lem s c.loop-all.all c.loop-all.p f (omega arith) c.in_ok-w.w c.in_ok-w.next None c.loop-all-test.ensures.value c.in_ok-w.ensures.value c.in_err-all.ensures.value)
+          c.loop-place.invariant.said None (λ f h. one_word_lem s c.loop-place.all c.loop-place.place f (omega arith) c.in_ok-w.w c.in_ok-w.next None c.loop-place-test.ensures.value c.in_ok-w.ensures.value c.in_err-all.ensures.value)
           ∙ ap (option_map (words_is s)) (sym c.from_residual-in_err-all.ensures);
     }
 
-pub loop-all-preserved : goal.loop-all-preserved
-loop-all-preserved c =
-    let s = c.args.line.now in
+pub loop-place-preserved : goal.loop-place-preserved
+loop-place-preserved c =
+    let s = c.args.c.line.now in
     λ o more.
-    c.loop-all.invariant o
+    c.loop-place.invariant.said o
     (λ f h.
-    one_word_lem s c.loop-all.all c.loop-all.p f (omega arith) c.in_ok-w.w c.in_ok-w.next (Some c.in_ok-all.all) c.loop-all-test.ensures.value c.in_ok-w.ensures.value c.in_ok-all.ensures.value
+    one_word_lem s c.loop-place.all c.loop-place.place f (omega arith) c.in_ok-w.w c.in_ok-w.next (Some c.in_ok-all.all) c.loop-place-test.ensures.value c.in_ok-w.ensures.value c.in_ok-all.ensures.value
     ∙ more (f - 1) (omega (arith, c.in_ok-w.ensures.past)))
 
 pub returns : goal.returns
-returns c = record { value = c.loop-all.invariant _ (λ f h. at_the_end c.args.line.now c.loop-all.all c.loop-all.p f (omega arith) c.loop-all-test.ensures.value) }
+returns c = record { value = c.loop-place.invariant.said _ (λ f h. at_the_end c.args.c.line.now c.loop-place.all c.loop-place.place f (omega arith) c.loop-place-test.ensures.value) }
