@@ -89,7 +89,7 @@ unfolding words_from
 words_is_lem zero ws ts h = absurd (omega arith)
 words_is_lem (suc f) ws ts h = let p : f ≡ suc f - 1 = omega arith in ap (λ g. pick (is_end (first ts)) (λ u. Some ws) (λ u. beside (one_word (first u) (rest u)) ws (λ vs v. words_from g vs v)) ts) p
 
-module _ (line : List ℕ) (ws : Words Value) (c : Cursor) (f : ℕ) (enough : 0 < f) where
+module _ (line : List ℕ) (ws : Words Value) (c : Cursor) (inside : c.line.now ≡ line) (f : ℕ) (enough : 0 < f) where
   by_end : (b : Bool) → b ≡ is_end (first (ahead c)) → words_from f (words_is line ws) (ahead c) ≡ pick b (λ u. Some (words_is line ws)) (λ u. beside (one_word (first u) (rest u)) (words_is line ws) (λ vs v. words_from (f - 1) vs v)) (ahead c)
   by_end b e = words_is_lem f (words_is line ws) (ahead c) enough ∙ ap (λ b. pick b (λ u. Some (words_is line ws)) (λ u. beside (one_word (first u) (rest u)) (words_is line ws) (λ vs v. words_from (f - 1) vs v)) (ahead c)) (sym e)
 
@@ -99,8 +99,8 @@ module _ (line : List ℕ) (ws : Words Value) (c : Cursor) (f : ℕ) (enough : 0
   pub no_word : false ≡ is_end (first (ahead c)) → one_word (first (ahead c)) (rest (ahead c)) ≡ None → words_from f (words_is line ws) (ahead c) ≡ None
   no_word e h = by_end false e ∙ ap (λ o. beside o (words_is line ws) (λ vs v. words_from (f - 1) vs v)) h
 
-  pub one_word_lem : (w : Word Value) (d : Cursor) (o : Option (Words Value)) → false ≡ is_end (first (ahead c)) → one_word (first (ahead c)) (rest (ahead c)) ≡ Some (word_is line w, ahead d) → o ≡ entered w ws → words_from f (words_is line ws) (ahead c) ≡ (option_map (words_is line) o >>= (λ u. words_from (f - 1) u (ahead d)))
+  pub one_word_lem : (w : Word Value) (d : Cursor) (o : Option (Words Value)) → false ≡ is_end (first (ahead c)) → one_word (first (ahead c)) (rest (ahead c)) ≡ Some (word_is c.line.now w, ahead d) → o ≡ entered w ws → words_from f (words_is line ws) (ahead c) ≡ (option_map (words_is line) o >>= (λ u. words_from (f - 1) u (ahead d)))
   one_word_lem w d o e h g =
       by_end false e
-      ∙ ap (λ o. beside o (words_is line ws) (λ vs v. words_from (f - 1) vs v)) h
+      ∙ ap (λ o. beside o (words_is line ws) (λ vs v. words_from (f - 1) vs v)) (h ∙ ap (λ s. Some (word_is s w, ahead d)) inside)
       ∙ ap (λ o. o >>= (λ u. words_from (f - 1) u (ahead d))) (entered_said line w ws ∙ ap (option_map (words_is line)) (sym g))

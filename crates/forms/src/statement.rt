@@ -82,11 +82,7 @@ fn assign(c: Cursor<'_>, n: Number<'_>) -> Option<Statement<Value, Place>>
 }
 
 /// What follows GOTOF or GOTOB.
-fn jump(
-    c: Cursor<'_>,
-    forward: bool,
-    test: Option<Test<Value>>,
-) -> Option<Statement<Value, Place>>
+fn jump(c: Cursor<'_>, forward: bool, test: Option<Test<Value>>) -> Option<Statement<Value, Place>>
     ensures value { jump_line forward (option_map (test_is c.entry.line.now) test) (ahead c.entry) ≡ option_map (statement_is c.entry.line.now) result }
 {
     let (target, next) = target(c)?;
