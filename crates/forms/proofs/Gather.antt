@@ -1,5 +1,5 @@
 -- Words one after the other, beside those before them. Assumes nothing.
-use Rattle.std.proofs.Common.{◌≡◌, ℕ, zero, suc, ◌-◌, ◌<◌, Bool, true, false, cond, ◌&&◌, List, is_none, Some, None, Option, sym, refl, ap, ◌∙◌, arith}
+use Rattle.std.proofs.Common.{◌≡◌, ℕ, zero, suc, ◌-◌, ◌<◌, Bool, true, false, cond, ◌&&◌, List, is_none, Some, None, Option, sym, refl, ap, ◌∙◌, arith, rules}
 use Rattle.std.specs.Option.{option_map}
 use Rattle.lexer.specs.Tokens.{Token, first, rest}
 use Rattle.lexer.specs.Model.{ahead}
@@ -35,9 +35,9 @@ mapped_mapped g f (Some a) = refl
 
 module _ (line : List ℕ) where
   on_axis_lem : (a : machine.Axis) (v : Value) (s : Each Value) → on_axis a (value_is line v) (axes_is line s) ≡ option_map (axes_is line) (on_axis a v s)
-  on_axis_lem X v s = once_said (value_is line) (axes_is line) s.x (record { x = Some v; y = s.y; z = s.z })
-  on_axis_lem Y v s = once_said (value_is line) (axes_is line) s.y (record { x = s.x; y = Some v; z = s.z })
-  on_axis_lem Z v s = once_said (value_is line) (axes_is line) s.z (record { x = s.x; y = s.y; z = Some v })
+  on_axis_lem X v s = search rules
+  on_axis_lem Y v s = search (rules, once_said)
+  on_axis_lem Z v s = grind (arith, once_said)
 
   abbrev with_groups : Words Value → Groups → Words Value
   with_groups ws g = record { groups = g; axes = ws.axes; centres = ws.centres; feed = ws.feed; speed = ws.speed; tool = ws.tool; action = ws.action; area = ws.area }
@@ -49,14 +49,14 @@ module _ (line : List ℕ) where
   with_centres ws a = record { groups = ws.groups; axes = ws.axes; centres = a; feed = ws.feed; speed = ws.speed; tool = ws.tool; action = ws.action; area = ws.area }
 
   pub entered_said : (w : Word Value) (ws : Words Value) → entered (word_is line w) (words_is line ws) ≡ option_map (words_is line) (entered w ws)
-  entered_said (Function g) ws = mapped_mapped (words_is line) (with_groups ws) (with_g g ws.groups)
-  entered_said (Axis a v) ws = ap (option_map (λ s. record { groups = ws.groups; axes = s; centres = axes_is line ws.centres; feed = ws.feed; speed = ws.speed; tool = ws.tool; action = ws.action; area = ws.area })) (on_axis_lem a v ws.axes) ∙ sym (mapped_mapped _ (axes_is line) (on_axis a v ws.axes)) ∙ mapped_mapped (words_is line) (with_axes ws) (on_axis a v ws.axes)
-  entered_said (Centre a v) ws = ap (option_map (λ s. record { groups = ws.groups; axes = axes_is line ws.axes; centres = s; feed = ws.feed; speed = ws.speed; tool = ws.tool; action = ws.action; area = ws.area })) (on_axis_lem a v ws.centres) ∙ sym (mapped_mapped _ (axes_is line) (on_axis a v ws.centres)) ∙ mapped_mapped (words_is line) (with_centres ws) (on_axis a v ws.centres)
-  entered_said (Feed v) ws = once_mapped (words_is line) ws.feed _
-  entered_said (Speed v) ws = once_mapped (words_is line) ws.speed _
-  entered_said (Tool v) ws = once_mapped (words_is line) ws.tool _
-  entered_said (Action v) ws = once_mapped (words_is line) ws.action _
-  entered_said (Area on) ws = once_mapped (words_is line) ws.area _
+  entered_said (Function g) ws = search (rules, mapped_mapped)
+  entered_said (Axis a v) ws = search (rules, on_axis_lem, mapped_mapped)
+  entered_said (Centre a v) ws = grind (arith, on_axis_lem, mapped_mapped)
+  entered_said (Feed v) ws = search (rules, once_mapped)
+  entered_said (Speed v) ws = search (rules, once_mapped)
+  entered_said (Tool v) ws = search (rules, once_mapped)
+  entered_said (Action v) ws = search (rules, once_mapped)
+  entered_said (Area on) ws = search (rules, once_mapped)
 
 -- One turn
 
