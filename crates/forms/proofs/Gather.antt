@@ -21,14 +21,6 @@ use Rattle.forms.specs.declared.said.Words.{Words}
 
 -- Holding values by their places changes neither what may be entered nor what is there
 
-once_mapped : {A B C : Type 0} (f : B → C) (o : Option A) (b : B) → once o (f b) ≡ option_map f (once o b)
-once_mapped f None b = refl
-once_mapped f (Some a) b = refl
-
-once_said : {A B C D : Type 0} (g : A → D) (f : B → C) (o : Option A) (b : B) → once (option_map g o) (f b) ≡ option_map f (once o b)
-once_said g f None b = refl
-once_said g f (Some a) b = refl
-
 mapped_mapped : {A B C : Type 0} (g : B → C) (f : A → B) (o : Option A) → option_map (λ a. g (f a)) o ≡ option_map g (option_map f o)
 mapped_mapped g f None = refl
 mapped_mapped g f (Some a) = refl
@@ -36,27 +28,21 @@ mapped_mapped g f (Some a) = refl
 module _ (line : List ℕ) where
   on_axis_lem : (a : machine.Axis) (v : Value) (s : Each Value) → on_axis a (value_is line v) (axes_is line s) ≡ option_map (axes_is line) (on_axis a v s)
   on_axis_lem X v s = search rules
-  on_axis_lem Y v s = search (rules, once_said)
-  on_axis_lem Z v s = grind (arith, once_said)
-
-  abbrev with_groups : Words Value → Groups → Words Value
-  with_groups ws g = record { groups = g; axes = ws.axes; centres = ws.centres; feed = ws.feed; speed = ws.speed; tool = ws.tool; action = ws.action; area = ws.area }
-
-  abbrev with_axes : Words Value → Each Value → Words Value
-  with_axes ws a = record { groups = ws.groups; axes = a; centres = ws.centres; feed = ws.feed; speed = ws.speed; tool = ws.tool; action = ws.action; area = ws.area }
-
-  abbrev with_centres : Words Value → Each Value → Words Value
-  with_centres ws a = record { groups = ws.groups; axes = ws.axes; centres = a; feed = ws.feed; speed = ws.speed; tool = ws.tool; action = ws.action; area = ws.area }
+  on_axis_lem Y v s = search rules
+  on_axis_lem Z v s = search rules
 
   pub entered_said : (w : Word Value) (ws : Words Value) → entered (word_is line w) (words_is line ws) ≡ option_map (words_is line) (entered w ws)
-  entered_said (Function g) ws = search (rules, mapped_mapped)
-  entered_said (Axis a v) ws = search (rules, on_axis_lem, mapped_mapped)
-  entered_said (Centre a v) ws = grind (arith, on_axis_lem, mapped_mapped)
-  entered_said (Feed v) ws = search (rules, once_mapped)
-  entered_said (Speed v) ws = search (rules, once_mapped)
-  entered_said (Tool v) ws = search (rules, once_mapped)
-  entered_said (Action v) ws = search (rules, once_mapped)
-  entered_said (Area on) ws = search (rules, once_mapped)
+  entered_said (Function g) ws = search rules
+  entered_said (Axis a v) ws = search (rules, on_axis_lem)
+  entered_said (Centre a v) ws = grind (arith, on_axis_lem)
+  entered_said (Feed v) ws = search rules
+  entered_said (Speed v) ws = search rules
+  entered_said (Tool v) ws = search rules
+  entered_said (Action v) ws = search rules
+  entered_said (Area on) ws = search rules
+
+  pub only_axes_said : (ws : Words Value) → only_axes (words_is line ws) ≡ option_map (axes_is line) (only_axes ws)
+  only_axes_said ws = search rules
 
 -- One turn
 
@@ -66,17 +52,11 @@ words_is_lem zero ws ts h = absurd (omega arith)
 words_is_lem (suc f) ws ts h = let p : f ≡ suc f - 1 = omega arith in ap (λ g. pick (is_end (first ts)) (λ u. Some ws) (λ u. beside (one_word (first u) (rest u)) ws (λ vs v. words_from g vs v)) ts) p
 
 module _ (line : List ℕ) (ws : Words Value) (c : Cursor) (inside : c.line.now ≡ line) (f : ℕ) (enough : 0 < f) where
-  by_end : (b : Bool) → b ≡ is_end (first (ahead c)) → words_from f (words_is line ws) (ahead c) ≡ pick b (λ u. Some (words_is line ws)) (λ u. beside (one_word (first u) (rest u)) (words_is line ws) (λ vs v. words_from (f - 1) vs v)) (ahead c)
-  by_end b e = words_is_lem f (words_is line ws) (ahead c) enough ∙ ap (λ b. pick b (λ u. Some (words_is line ws)) (λ u. beside (one_word (first u) (rest u)) (words_is line ws) (λ vs v. words_from (f - 1) vs v)) (ahead c)) (sym e)
-
   pub at_the_end : true ≡ is_end (first (ahead c)) → words_from f (words_is line ws) (ahead c) ≡ Some (words_is line ws)
-  at_the_end e = by_end true e
+  at_the_end e = let t = words_is_lem f (words_is line ws) (ahead c) enough in search rules
 
   pub no_word : false ≡ is_end (first (ahead c)) → one_word (first (ahead c)) (rest (ahead c)) ≡ None → words_from f (words_is line ws) (ahead c) ≡ None
-  no_word e h = by_end false e ∙ ap (λ o. beside o (words_is line ws) (λ vs v. words_from (f - 1) vs v)) h
+  no_word e h = let t = words_is_lem f (words_is line ws) (ahead c) enough in search rules
 
   pub one_word_lem : (w : Word Value) (d : Cursor) (o : Option (Words Value)) → false ≡ is_end (first (ahead c)) → one_word (first (ahead c)) (rest (ahead c)) ≡ Some (word_is c.line.now w, ahead d) → o ≡ entered w ws → words_from f (words_is line ws) (ahead c) ≡ (option_map (words_is line) o >>= (λ u. words_from (f - 1) u (ahead d)))
-  one_word_lem w d o e h g =
-      by_end false e
-      ∙ ap (λ o. beside o (words_is line ws) (λ vs v. words_from (f - 1) vs v)) (h ∙ ap (λ s. Some (word_is s w, ahead d)) inside)
-      ∙ ap (λ o. o >>= (λ u. words_from (f - 1) u (ahead d))) (entered_said line w ws ∙ ap (option_map (words_is line)) (sym g))
+  one_word_lem w d o e h g = let t = words_is_lem f (words_is line ws) (ahead c) enough in let n = entered_said line w ws in search rules

@@ -35,6 +35,7 @@ fn plain(c: Cursor<'_>) -> Option<Statement<Value, Place>>
 }
 
 /// The axis words up to the end of the line, where no others stand there.
+#[tactic(auto, using(crate::proofs::Gather::only_axes_said))]
 fn axes(c: Cursor<'_>) -> Option<Named<Value>>
     ensures value { axes_line (ahead c.entry) ≡ option_map (axes_is c.entry.line.now) result }
 {
