@@ -1,29 +1,22 @@
 -- Words one after the other, beside those before them. Assumes nothing.
-use Rattle.std.proofs.Common.{◌≡◌, ℕ, zero, suc, ◌-◌, ◌<◌, Bool, true, false, cond, ◌&&◌, List, is_none, Some, None, Option, sym, refl, ap, ◌∙◌, arith, rules}
+use Rattle.std.proofs.Common.{◌≡◌, ℕ, zero, suc, ◌-◌, ◌<◌, true, false, List, Some, None, Option, ap, arith, rules}
 use Rattle.std.specs.Option.{option_map}
 use Rattle.lexer.specs.Tokens.{Token, first, rest}
 use Rattle.lexer.specs.Model.{ahead}
 use Rattle.lexer.specs.declared.cursor.Cursor.{Cursor}
-use Rattle.motions.specs.Axes.{none_named}
 use Rattle.motions.specs.declared.axes.Axis as machine
 use Rattle.motions.specs.declared.axes.Axis.TheVariants.{X, Y, Z}
-use Rattle.forms.specs.Groups.{once, with_g, no_modal, no_flag}
 use Rattle.sums.specs.Sums.{Sum, ◌>>=◌, pick}
-use Rattle.forms.specs.Words.{Each, on_axis, entered, no_numbered, only_axes, some_axis}
+use Rattle.forms.specs.Words.{Each, on_axis, entered, only_axes}
 use Rattle.forms.specs.Forms.{is_end, one_word, beside, words_from}
 use Rattle.sums.specs.Model.{value_is}
 use Rattle.forms.specs.Model.{axes_is, word_is, words_is}
-use Rattle.forms.specs.declared.said.Groups.{Groups}
 use Rattle.sums.specs.declared.value.Value.{Value}
 use Rattle.forms.specs.declared.said.Word.{Word}
 use Rattle.forms.specs.declared.said.Word.TheVariants.{Function, Axis, Centre, Feed, Speed, Tool, Action, Area}
 use Rattle.forms.specs.declared.said.Words.{Words}
 
 -- Holding values by their places changes neither what may be entered nor what is there
-
-mapped_mapped : {A B C : Type 0} (g : B → C) (f : A → B) (o : Option A) → option_map (λ a. g (f a)) o ≡ option_map g (option_map f o)
-mapped_mapped g f None = refl
-mapped_mapped g f (Some a) = refl
 
 module _ (line : List ℕ) where
   on_axis_lem : (a : machine.Axis) (v : Value) (s : Each Value) → on_axis a (value_is line v) (axes_is line s) ≡ option_map (axes_is line) (on_axis a v s)
@@ -51,12 +44,12 @@ unfolding words_from
 words_is_lem zero ws ts h = absurd (omega arith)
 words_is_lem (suc f) ws ts h = let p : f ≡ suc f - 1 = omega arith in ap (λ g. pick (is_end (first ts)) (λ u. Some ws) (λ u. beside (one_word (first u) (rest u)) ws (λ vs v. words_from g vs v)) ts) p
 
-module _ (line : List ℕ) (ws : Words Value) (c : Cursor) (inside : c.line.now ≡ line) (f : ℕ) (enough : 0 < f) where
+module _ (line : List ℕ) (ws : Words Value) (c : Cursor) (f : ℕ) (enough : 0 < f) where
   pub at_the_end : true ≡ is_end (first (ahead c)) → words_from f (words_is line ws) (ahead c) ≡ Some (words_is line ws)
   at_the_end e = let t = words_is_lem f (words_is line ws) (ahead c) enough in search rules
 
   pub no_word : false ≡ is_end (first (ahead c)) → one_word (first (ahead c)) (rest (ahead c)) ≡ None → words_from f (words_is line ws) (ahead c) ≡ None
   no_word e h = let t = words_is_lem f (words_is line ws) (ahead c) enough in search rules
 
-  pub one_word_lem : (w : Word Value) (d : Cursor) (o : Option (Words Value)) → false ≡ is_end (first (ahead c)) → one_word (first (ahead c)) (rest (ahead c)) ≡ Some (word_is c.line.now w, ahead d) → o ≡ entered w ws → words_from f (words_is line ws) (ahead c) ≡ (option_map (words_is line) o >>= (λ u. words_from (f - 1) u (ahead d)))
-  one_word_lem w d o e h g = let t = words_is_lem f (words_is line ws) (ahead c) enough in let n = entered_said line w ws in search rules
+  pub one_word_lem : (w : Word Value) (d : Cursor) (o : Option (Words Value)) → c.line.now ≡ line → false ≡ is_end (first (ahead c)) → one_word (first (ahead c)) (rest (ahead c)) ≡ Some (word_is c.line.now w, ahead d) → o ≡ entered w ws → words_from f (words_is line ws) (ahead c) ≡ (option_map (words_is line) o >>= (λ u. words_from (f - 1) u (ahead d)))
+  one_word_lem w d o inside e h g = let t = words_is_lem f (words_is line ws) (ahead c) enough in let n = entered_said line w ws in search rules

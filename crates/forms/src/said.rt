@@ -7,7 +7,8 @@ use motions::row::Turn;
 /// A value for each axis that is named.
 pub type Named<V> = Axes<Option<V>>;
 
-/// A name's place in the text: where it begins, and how many bytes it has.
+/// A name's place in the text: where it begins, and how many bytes it has. It is no slice of the text, since the room for
+/// labels is made once and filled anew from one text after another, so that what it holds can't borrow from one of them.
 #[derive(Clone, Copy, Drop, PartialEq, Eq)]
 pub struct Place {
     pub from: usize,

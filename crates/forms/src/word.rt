@@ -18,8 +18,9 @@ use sums::marks::{sign, take};
 use sums::reading::sum_end;
 use sums::value::Value;
 
+/// How many digits T takes at most.
 const TOOL_DIGITS: usize = 4;
-
+/// How many digits M takes at most.
 const ACTION_DIGITS: usize = 2;
 
 /// What follows an axis letter that no number follows directly, and the cursor after it.
@@ -61,8 +62,13 @@ fn attached(kind: Kind, n: Number<'_>) -> Option<Word<Value>>
     match kind {
         Kind::Axis(_) | Kind::Centre(_) => {
             let thousandths = n.thousandths()?;
-            let minus = false;
-            valued(kind, Value::Number { minus, thousandths })
+            valued(
+                kind,
+                Value::Number {
+                    minus: false,
+                    thousandths,
+                },
+            )
         }
         Kind::Feed => Some(Word::Feed(n.thousandths()?)),
         Kind::Speed => Some(Word::Speed(n.thousandths()?)),
