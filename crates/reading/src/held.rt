@@ -1,5 +1,5 @@
 //! What a program holds.
-ghost use Rattle.std.specs.Prelude.{◌≡◌, ◌≤◌, length, take, pos, Some};
+ghost use Rattle.std.specs.Prelude.{◌≡◌, ◌≤◌, length, map, take, pos, Some};
 ghost use Rattle.std.specs.Option.{option_map};
 ghost use Rattle.sums.specs.Sums.{total};
 ghost use Rattle.sums.specs.Model.{Ranged, value_is};
@@ -19,6 +19,13 @@ impl<'t> Program<'t> {
         self.text
     }
 
+    /// What its lines say, one after the other.
+    pub fn lines(&self) -> &[Held]
+        ensures value { map (said (held_text self.now)) result.now ≡ held_lines self.now }
+    {
+        &self.lines
+    }
+
     /// How many lines it has.
     pub fn count(&self) -> usize
         ensures value { result ≡ length (held_lines self.now) }
@@ -31,10 +38,8 @@ impl<'t> Program<'t> {
     pub fn line(&self, number: usize) -> Option<Held>
         ensures value { option_map (said (held_text self.now)) result ≡ numbered (held_lines self.now) number }
     {
-        if number == 0 || number > self.lines.len() {
-            return None;
-        }
-        Some(self.lines[number - 1])
+        let before = number.checked_sub(1)?;
+        self.lines.get(before).copied()
     }
 
     /// What a value that a line holds is worth, in thousandths; nothing where a partial result is beyond the range.
@@ -42,8 +47,6 @@ impl<'t> Program<'t> {
         ensures value { result ≡ total params.now.values (Some (pos 0)) (value_is (take line.end (held_text self.now)) v) }
         ensures ranged { Ranged result }
     {
-        let text = self.text;
-        let end = line.end.min(text.len());
-        worth(&text[0..end], v, params)
+        worth(&self.text[..line.end.min(self.text.len())], v, params)
     }
 }
