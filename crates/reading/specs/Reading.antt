@@ -12,6 +12,7 @@ use Rattle.std.specs.Prelude.{◌≡◌, ℕ, ◌+◌, Bool, true, false, List, 
 use Rattle.std.specs.Option.{is_none}
 use Rattle.motions.specs.declared.refusal.Reason.TheVariants.{TextSize, LineForm}
 use Rattle.motions.specs.declared.refusal.Refusal.{Refusal}
+use Rattle.motions.specs.Refusals.{refused_on}
 use Rattle.forms.specs.declared.said.Line.{Line}
 use Rattle.sums.specs.Sums.{Sum}
 use Rattle.forms.specs.Forms.{Named, line_at}
@@ -50,8 +51,8 @@ read_text s = by_limits (limits s) s
 
 abbrev pub refusal : Text → Option Refusal
 refusal (lines ls) = None
-refusal too_large = Some (record { reason = TextSize; line = 0; motion = 0 })
-refusal (bad_line n) = Some (record { reason = LineForm; line = n; motion = 0 })
+refusal too_large = Some (refused_on TextSize 0)
+refusal (bad_line n) = Some (refused_on LineForm n)
 
 abbrev pub bad : Text → Option ℕ
 bad (lines ls) = None

@@ -71,18 +71,10 @@ impl<'t> Program<'t> {
         ensures value { Read text.now self.old self.new result }
     {
         if !within_limits(text) {
-            return Err(Refusal {
-                reason: Reason::TextSize,
-                line: 0,
-                motion: 0,
-            });
+            return Err(Refusal::of_line(Reason::TextSize, 0));
         }
         if let Some(line) = first_bad(text) {
-            return Err(Refusal {
-                reason: Reason::LineForm,
-                line,
-                motion: 0,
-            });
+            return Err(Refusal::of_line(Reason::LineForm, line));
         }
         fill(&mut self.lines, text);
         self.text = text;
