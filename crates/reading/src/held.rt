@@ -42,11 +42,18 @@ impl<'t> Program<'t> {
         self.lines.get(before).copied()
     }
 
+    /// The text up to the end of a line's code, in which what the line holds has its places.
+    pub fn up_to(&self, line: Held) -> &'t [u8]
+        ensures value { result.now ≡ take line.end (held_text self.now) }
+    {
+        &self.text[..line.end.min(self.text.len())]
+    }
+
     /// What a value that a line holds is worth, in thousandths; nothing where a partial result is beyond the range.
     pub fn worth(&self, line: Held, v: Value, params: &Parameters) -> Option<i64>
         ensures value { result ≡ total params.now.values (Some (pos 0)) (value_is (take line.end (held_text self.now)) v) }
         ensures ranged { Ranged result }
     {
-        worth(&self.text[..line.end.min(self.text.len())], v, params)
+        worth(self.up_to(line), v, params)
     }
 }
