@@ -1,6 +1,7 @@
 //! The pieces that canonical lines are made of.
 use crate::sum::Sum;
 use forms::said::{Comparison, Place, Target, Test};
+use lexer::cursor::Cursor;
 use std::fmt;
 use sums::value::Value;
 
@@ -53,10 +54,10 @@ impl fmt::Display for Shown<'_, Value> {
                 write!(f, "{sign}{number}")
             }
             Value::Sum(at) => {
-                let sum = Sum {
+                let sum = Sum(Cursor {
                     line: self.text,
                     at,
-                };
+                });
                 write!(f, "{sum}")
             }
         }

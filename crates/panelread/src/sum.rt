@@ -3,48 +3,38 @@ ghost use Rattle.lexer.specs.Model.{left};
 ghost use Rattle.std.specs.Iterator.{at_most};
 
 use crate::pieces::Decimal;
-use lexer::scan::token;
+use lexer::cursor::Cursor;
 use lexer::symbols::{Letter, Mark};
 use lexer::token::Token;
 use std::fmt;
 
-/// The tokens of a line from a place on.
+/// The tokens of a line from a cursor on.
 #[derive(Drop)]
-struct Tokens<'t> {
-    line: &'t [u8],
-    at: usize,
-}
+struct Tokens<'t>(Cursor<'t>);
 
 impl<'t> Iterator for Tokens<'t> {
     type Item = Token<'t>;
 
-    ghost remaining = { λ s. at_most (left s.line.now s.at) };
+    ghost remaining = { λ s. at_most (left s.0) };
 
     fn next(&mut self) -> Option<Token<'t>> {
-        let (piece, next) = token(self.line, self.at);
-        self.at = next;
-        match piece {
+        let (token, next) = self.0.token();
+        self.0 = next;
+        match token {
             Token::End => None,
-            _ => Some(piece),
+            _ => Some(token),
         }
     }
 }
 
-/// The sum that stands at a place of a line.
+/// The sum that stands at a cursor.
 #[derive(Clone, Copy)]
-pub struct Sum<'a> {
-    pub line: &'a [u8],
-    pub at: usize,
-}
+pub struct Sum<'a>(pub Cursor<'a>);
 
 impl fmt::Display for Sum<'_> {
     fn fmt<W: fmt::Write>(&self, f: &mut fmt::Formatter<W>) -> fmt::Result {
-        let tokens = Tokens {
-            line: self.line,
-            at: self.at,
-        };
-        for piece in tokens {
-            match piece {
+        for token in Tokens(self.0) {
+            match token {
                 Token::Number(number) => {
                     let decimal = Decimal(number.thousandths().unwrap_or(0));
                     write!(f, "{decimal}")?;

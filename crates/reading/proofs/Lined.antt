@@ -39,9 +39,9 @@ one_line s i e h is =
     let long : length (take (e - i) (drop i s)) ≡ e - i = length-take-le (e - i) (drop i s) (omega arith) in
     let after : i + length (take (e - i) (drop i s)) + 1 ≡ e + 1 = omega arith in
     let first : lines_of (drop i s) ≡ take (e - i) (drop i s) ∷ lines_of (drop (e + 1) s) =
-          lines_step (drop i s) (omega arith)
-          ∙ ap (λ k. take k (drop i s) ∷ lines_of (drop (suc k) (drop i s))) n
-          ∙ ap (λ l. take (e - i) (drop i s) ∷ lines_of l) (drop-drop (suc (e - i)) i s ∙ ap (λ k. drop k s) same) in
+    lines_step (drop i s) (omega arith)
+    ∙ ap (λ k. take k (drop i s) ∷ lines_of (drop (suc k) (drop i s))) n
+    ∙ ap (λ l. take (e - i) (drop i s) ∷ lines_of l) (drop-drop (suc (e - i)) i s ∙ ap (λ k. drop k s) same) in
     record {
       low = omega arith;
       high = omega arith;

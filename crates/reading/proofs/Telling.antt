@@ -1,13 +1,13 @@
 -- What the lines of a text say, one after the other. Assumes nothing.
 use Rattle.std.proofs.Common.{◌≡◌, ℕ, ◌+◌, ◌-◌, ◌≤◌, List, [], ◌∷◌, ◌++◌, length, take, drop, cond, ltb, Some, None, Option, sym, refl, ap, ◌∙◌, arith}
-use Rattle.std.proofs.lemmas.List.{append_assoc, append-nil, drop-take, take-take}
+use Rattle.std.proofs.lemmas.List.{append_assoc, append-nil, drop-take, length-drop, length-take-le, take-take}
+use Rattle.std.proofs.lemmas.List.Sums.{prefix_len-le-length}
 use Rattle.std.proofs.lemmas.Iterator.Adapters.{position_from-zero}
-use Rattle.std.specs.List.{position_from, position_or_len}
+use Rattle.std.specs.List.{position_from, position_or_len, prefix_len}
 use Rattle.std.specs.Option.{option_map}
-use Rattle.lexer.specs.Bytes.{run, in_code}
+use Rattle.lexer.specs.Bytes.{in_code}
 use Rattle.lexer.specs.Tokens.{tokens_from}
 use Rattle.lexer.specs.Model.{tokens}
-use Rattle.lexer.proofs.Lengths.{run_le, part_length_lem}
 use Rattle.forms.specs.declared.said.Line.{Line}
 use Rattle.sums.specs.Sums.{Sum}
 use Rattle.forms.specs.Forms.{Named, form_of, line_at}
@@ -101,17 +101,17 @@ never_bad ls n left t h p ps e good f =
 cut_from : (s : List ℕ) (i e : ℕ) → i ≤ e → drop i (take e s) ≡ take (e - i) (drop i s)
 cut_from s i e h = let k : e ≡ i + (e - i) = omega arith in ap (λ n. drop i (take n s)) k ∙ drop-take i (e - i) s
 
-module _ (s : List ℕ) (i e k : ℕ) (low : i ≤ e) (high : e ≤ length s) (is : k ≡ i + run in_code (drop i (take e s))) where
-  run_is : run in_code (drop i (take e s)) ≡ run in_code (take (e - i) (drop i s))
-  run_is = ap (run in_code) (cut_from s i e low)
+module _ (s : List ℕ) (i e k : ℕ) (low : i ≤ e) (high : e ≤ length s) (is : k ≡ i + prefix_len in_code (drop i (take e s))) where
+  run_is : prefix_len in_code (drop i (take e s)) ≡ prefix_len in_code (take (e - i) (drop i s))
+  run_is = ap (prefix_len in_code) (cut_from s i e low)
 
-  run_few : run in_code (take (e - i) (drop i s)) ≤ e - i
-  run_few = omega (arith, run_le in_code (take (e - i) (drop i s)), part_length_lem s i e low high)
+  run_few : prefix_len in_code (take (e - i) (drop i s)) ≤ e - i
+  run_few = omega (arith, prefix_len-le-length in_code (take (e - i) (drop i s)), length-take-le (e - i) (drop i s) (omega (arith, length-drop i s, low, high)))
 
   pub code_high : k ≤ length s
   code_high = omega (arith, is, run_is, run_few, low, high)
 
   pub form_is : form_of (tokens (take k s) i) ≡ line_at i (take (e - i) (drop i s))
   form_is =
-      let n : k - i ≡ run in_code (take (e - i) (drop i s)) = omega (arith, is, run_is) in
-      ap (λ u. form_of (tokens_from 0 i u)) (cut_from s i k (omega (arith, is)) ∙ ap (λ n. take n (drop i s)) n ∙ sym (take-take (run in_code (take (e - i) (drop i s))) (e - i) (drop i s) run_few))
+      let n : k - i ≡ prefix_len in_code (take (e - i) (drop i s)) = omega (arith, is, run_is) in
+      ap (λ u. form_of (tokens_from 0 i u)) (cut_from s i k (omega (arith, is)) ∙ ap (λ n. take n (drop i s)) n ∙ sym (take-take (prefix_len in_code (take (e - i) (drop i s))) (e - i) (drop i s) run_few))

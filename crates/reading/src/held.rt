@@ -2,11 +2,12 @@
 ghost use Rattle.std.specs.Prelude.{◌≡◌, ◌≤◌, length, map, take, pos, Some};
 ghost use Rattle.std.specs.Option.{option_map};
 ghost use Rattle.sums.specs.Sums.{total};
-ghost use Rattle.sums.specs.Model.{Ranged, value_is};
+ghost use Rattle.sums.specs.Model.{value_is};
 ghost use Rattle.forms.specs.Numbered.{numbered};
 ghost use Rattle.reading.specs.Reading.{said, held_text, held_lines};
 
 use crate::program::{Held, Program};
+use sums::amount::Amount;
 use sums::parameters::Parameters;
 use sums::reading::worth;
 use sums::value::Value;
@@ -49,10 +50,9 @@ impl<'t> Program<'t> {
         &self.text[..line.end.min(self.text.len())]
     }
 
-    /// What a value that a line holds is worth, in thousandths; nothing where a partial result is beyond the range.
-    pub fn worth(&self, line: Held, v: Value, params: &Parameters) -> Option<i64>
+    /// What a value that a line holds is worth; nothing where a partial result is beyond the range.
+    pub fn worth(&self, line: Held, v: Value, params: &Parameters) -> Option<Amount>
         ensures value { result ≡ total params.now.values (Some (pos 0)) (value_is (take line.end (held_text self.now)) v) }
-        ensures ranged { Ranged result }
     {
         worth(self.up_to(line), v, params)
     }

@@ -10,6 +10,7 @@ use crate::lines::{Lines, within_limits};
 use crate::program::{Held, MOST_LINES, Program};
 use forms::line::line_at;
 use lexer::code::code_end;
+use lexer::cursor::Cursor;
 use motions::refusal::{Reason, Refusal};
 use std::alloc::{AllocError, Global};
 
@@ -19,7 +20,10 @@ impl TextLine<'_> {
         ensures value { line_at self.entry.from (bytes_of self.entry) ≡ option_map (said self.entry.text.now) result }
     {
         let code = code_end(&self.text[..self.end], self.from);
-        let line = line_at(&self.text[..code], self.from)?;
+        let line = line_at(Cursor {
+            line: &self.text[..code],
+            at: self.from,
+        })?;
         Some(Held { end: code, line })
     }
 
