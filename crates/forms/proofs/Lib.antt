@@ -1,3 +1,1 @@
-mod Choosing
 mod Gather
-mod Names

@@ -1,38 +1,22 @@
 //! The G functions of a line.
 ghost use Rattle.std.specs.Prelude.{◌≡◌};
-ghost use Rattle.forms.specs.Groups.{with_g, no_modal, no_flag, no_group};
+ghost use Rattle.forms.specs.Groups.{with_g, no_modal, no_flag};
 
-use crate::said::Groups;
+use crate::modal::Modal;
+use crate::said::{Groups, Interpolation, Measure, Slot};
+use motions::axes::Plane;
 
 impl Groups {
-    /// No function.
-    pub(crate) fn none() -> Groups
-        ensures value { result ≡ no_group }
-    {
-        Groups {
-            motion: None,
-            plane: None,
-            measure: None,
-            zero: None,
-            g53: false,
-            g40: false,
-            g60: false,
-            g64: false,
-            g71: false,
-            g94: false,
-        }
-    }
-
     /// These and the function `g`, if it has a group and the group has none yet.
     pub fn with(self, g: u32) -> Option<Groups>
         ensures value { result ≡ with_g g self }
     {
         let mut s = self;
         match g {
-            0..=3 if s.motion.is_none() => s.motion = Some(g),
-            17..=19 if s.plane.is_none() => s.plane = Some(g),
-            90..=91 if s.measure.is_none() => s.measure = Some(g),
-            54..=57 | 500 if s.zero.is_none() => s.zero = Some(g),
+            0..=3 if s.motion.is_none() => s.motion = Some(Interpolation::of(g)),
+            17..=19 if s.plane.is_none() => s.plane = Some(Plane::of(g)),
+            90..=91 if s.measure.is_none() => s.measure = Some(Measure::of(g)),
+            54..=57 | 500 if s.zero.is_none() => s.zero = Some(Slot::of(g)),
             53 if !s.g53 => s.g53 = true,
             40 if !s.g40 => s.g40 = true,
             60 if !s.g60 => s.g60 = true,
