@@ -1,5 +1,5 @@
 -- What is answered to the row of a line, from the tests of its parts. Assumes nothing.
-use Rattle.std.proofs.Common.{◌≡◌, Bool, true, false, cond, not, ◌||◌, ℤ, Some, None, sym, refl, ◌∙◌}
+use Rattle.std.proofs.Common.{◌≡◌, Bool, true, false, cond, not, ◌||◌, ℤ, Some, None, sym, refl, ap, ◌∙◌}
 use Rattle.std.proofs.lemmas.Bool.{and_left, and_right, and_from, cond-true, cond-false}
 use Rattle.motions.specs.declared.axes.Axes.{Axes}
 use Rattle.motions.specs.declared.refusal.Reason.{Reason}
@@ -37,7 +37,7 @@ module _ (m : Row) where
   beyond wrong e = cond-false _ _ _ (and_right (each_within position_range m.start) _ (not_there _ m e))
 
   -- a row's own fault stays, whatever stands beside it
-  pub own_fault : (wrong : Bool) (r : Reason) → fault m ≡ Some r → fault_by wrong m ≡ Some r
+  own_fault : (wrong : Bool) (r : Reason) → fault m ≡ Some r → fault_by wrong m ≡ Some r
   own_fault wrong r e = go (row_in_range m) (keeps_arc_rule m) wrong e
     where
       go : (a b w : Bool) → cond a (cond b None (Some ArcRule)) (Some MotionRange) ≡ Some r → cond a (cond (w || not b) (Some ArcRule) None) (Some MotionRange) ≡ Some r
@@ -47,7 +47,7 @@ module _ (m : Row) where
       go false b w h = h
 
   -- a row with no fault of its own is refused for what stands beside it, or not at all
-  pub no_own_fault : (wrong : Bool) → fault m ≡ None → fault_by wrong m ≡ cond wrong (Some ArcRule) None
+  no_own_fault : (wrong : Bool) → fault m ≡ None → fault_by wrong m ≡ cond wrong (Some ArcRule) None
   no_own_fault wrong e = go (row_in_range m) (keeps_arc_rule m) wrong e
     where
       go : (a b w : Bool) → cond a (cond b None (Some ArcRule)) (Some MotionRange) ≡ None → cond a (cond (w || not b) (Some ArcRule) None) (Some MotionRange) ≡ cond w (Some ArcRule) None
@@ -55,3 +55,16 @@ module _ (m : Row) where
       go true true false h = refl
       go true false w h = cc
       go false b w h = cc
+
+-- the same, of a row r that was answered for the row m of a line
+module _ (m r : Row) (e : Some r ≡ row_in_reach m) where
+  pub judged_same : r ≡ m
+  judged_same = (there _ m r e).1
+
+  pub judged_fault : (wrong : Bool) (reason : Reason) → fault r ≡ Some reason → fault_by wrong m ≡ Some reason
+  judged_fault wrong reason f = own_fault m wrong reason (ap fault (sym judged_same) ∙ f)
+
+  pub judged_well : (wrong : Bool) → fault r ≡ None → fault_by wrong m ≡ cond wrong (Some ArcRule) None
+  judged_well wrong f = no_own_fault m wrong (ap fault (sym judged_same) ∙ f)
+
+pub ruleset judged = (judged_same, judged_fault, judged_well)
