@@ -12,7 +12,7 @@ use Rattle.sums.specs.Sums.{Sum}
 use Rattle.sums.specs.Model.{value_is}
 use Rattle.sums.specs.declared.value.Value.{Value}
 use Rattle.forms.specs.Forms.{Named}
-use Rattle.forms.specs.declared.said.Axes.{Axes}
+use Rattle.forms.specs.Words.{Each}
 use Rattle.forms.specs.declared.said.Line.{Line}
 use Rattle.forms.specs.declared.said.Place.{Place}
 use Rattle.forms.specs.declared.said.Statement.{Statement}
@@ -33,7 +33,7 @@ Past line at (Some y) = left line y.1 < left line at
 
 -- What the code holds by places
 
-abbrev pub axes_is : List ℕ → Axes Value → Axes Sum
+abbrev pub axes_is : List ℕ → Each Value → Each Sum
 axes_is line a = record { x = option_map (value_is line) a.x; y = option_map (value_is line) a.y; z = option_map (value_is line) a.z }
 
 abbrev pub word_is : List ℕ → Word Value → Word Sum

@@ -81,14 +81,16 @@ pub(crate) fn target(line: &[u8], at: usize) -> Option<(Target<Place>, usize)>
     }
 }
 
-/// Which way a jump command goes: true for forward.
-fn heading(command: Command) -> Option<bool>
-    ensures value { result ≡ direction command }
-{
-    match command {
-        Command::Gotof => Some(true),
-        Command::Gotob => Some(false),
-        _ => None,
+impl Command {
+    /// Which way a jump command goes: true for forward.
+    fn heading(self) -> Option<bool>
+        ensures value { result ≡ direction self }
+    {
+        match self {
+            Command::Gotof => Some(true),
+            Command::Gotob => Some(false),
+            _ => None,
+        }
     }
 }
 
@@ -100,21 +102,23 @@ pub(crate) fn forward(line: &[u8], at: usize) -> Option<(bool, usize)>
     let Token::Name(n) = t else {
         return None;
     };
-    Some((heading(Command::of(n))?, next))
+    Some((Command::of(n)?.heading()?, next))
 }
 
-/// The comparison that a mark is.
-fn compared(m: Mark) -> Option<Comparison>
-    ensures value { result ≡ mark_comparison m }
-{
-    match m {
-        Mark::Same => Some(Comparison::Same),
-        Mark::Differs => Some(Comparison::Differs),
-        Mark::Less => Some(Comparison::Less),
-        Mark::Greater => Some(Comparison::Greater),
-        Mark::AtMost => Some(Comparison::AtMost),
-        Mark::AtLeast => Some(Comparison::AtLeast),
-        _ => None,
+impl Comparison {
+    /// The comparison that a mark is, if it is one.
+    fn of(m: Mark) -> Option<Comparison>
+        ensures value { result ≡ mark_comparison m }
+    {
+        Some(match m {
+            Mark::Same => Comparison::Same,
+            Mark::Differs => Comparison::Differs,
+            Mark::Less => Comparison::Less,
+            Mark::Greater => Comparison::Greater,
+            Mark::AtMost => Comparison::AtMost,
+            Mark::AtLeast => Comparison::AtLeast,
+            _ => return None,
+        })
     }
 }
 
@@ -126,7 +130,7 @@ fn comparison_at(line: &[u8], at: usize) -> Option<(Comparison, usize)>
     let Token::Mark(m) = t else {
         return None;
     };
-    Some((compared(m)?, next))
+    Some((Comparison::of(m)?, next))
 }
 
 /// Two sums and the comparison between them.

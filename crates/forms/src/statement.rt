@@ -38,23 +38,19 @@ fn plain(line: &[u8], at: usize) -> Option<Statement<Value, Place>>
 fn limits(line: &[u8], at: usize, upper: bool) -> Option<Statement<Value, Place>>
     ensures value { limits_line upper (tokens line.now at) ≡ option_map (statement_is line.now) result }
 {
-    let all = words(line, at)?;
-    let axes = all.only_axes()?;
-    Some(Statement::Limits {
-        upper,
-        axes: axes.some()?,
-    })
+    let axes = words(line, at)?.only_axes()?;
+    if axes.is_empty() {
+        return None;
+    }
+    Some(Statement::Limits { upper, axes })
 }
 
 /// What follows TRANS, or ATRANS where the shift is added.
 fn shift(line: &[u8], at: usize, adds: bool) -> Option<Statement<Value, Place>>
     ensures value { shift_line adds (tokens line.now at) ≡ option_map (statement_is line.now) result }
 {
-    let all = words(line, at)?;
-    Some(Statement::Shift {
-        adds,
-        axes: all.only_axes()?,
-    })
+    let axes = words(line, at)?.only_axes()?;
+    Some(Statement::Shift { adds, axes })
 }
 
 /// What follows G4.
@@ -65,7 +61,7 @@ fn dwell(line: &[u8], at: usize) -> Option<Statement<Value, Place>>
     let Token::Word(l, n) = t else {
         return None;
     };
-    let p = pause(Kind::of(l), n)?;
+    let p = pause(Kind::of(l)?, n)?;
     ended(line, next, Statement::Dwell(p))
 }
 
@@ -162,15 +158,13 @@ fn by_command(
     ensures value { command_line command (tokens line.now at) (tokens line.now next) ≡ option_map (statement_is line.now) result }
 {
     match command {
-        Command::Walimon => plain(line, at),
-        Command::Walimof => plain(line, at),
+        Command::Walimon | Command::Walimof => plain(line, at),
         Command::Trans => shift(line, next, false),
         Command::Atrans => shift(line, next, true),
         Command::Gotof => jump(line, next, true, None),
         Command::Gotob => jump(line, next, false, None),
         Command::If => conditional(line, next),
         Command::Repeat => repeat(line, next),
-        Command::Nothing => None,
     }
 }
 
@@ -180,7 +174,7 @@ pub(crate) fn statement_at(line: &[u8], at: usize) -> Option<Statement<Value, Pl
 {
     let (t, next) = token(line, at);
     match t {
-        Token::Name(n) => by_command(line, at, next, Command::of(n)),
+        Token::Name(n) => by_command(line, at, next, Command::of(n)?),
         Token::Word(l, n) => {
             if is_letter(Letter::R, l) {
                 return assign(line, next, n);

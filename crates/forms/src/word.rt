@@ -3,7 +3,7 @@ ghost use Rattle.std.specs.Prelude.{◌≡◌, ℕ, ◌<◌, List};
 ghost use Rattle.std.specs.Option.{option_map};
 ghost use Rattle.lexer.specs.Tokens.{first, rest};
 ghost use Rattle.lexer.specs.Model.{tokens, num_is};
-ghost use Rattle.forms.specs.Forms.{is_end, signed_of, word_of, spaced_of, area_of, one_word, all_words};
+ghost use Rattle.forms.specs.Forms.{is_end, signed_of, alone, word_of, spaced_of, area_of, one_word, all_words};
 ghost use Rattle.sums.specs.Model.{value_is};
 ghost use Rattle.forms.specs.Model.{read_by, Past, word_is, words_is};
 
@@ -43,37 +43,32 @@ fn signed(line: &[u8], at: usize) -> Option<(Value, usize)>
     }
 }
 
+/// The word that a value makes with an axis letter, or with I, J or K.
+fn valued(kind: Kind, value: Value) -> Option<Word<Value>>
+    ensures value { result ≡ option_map (λ f. f value) (alone kind) }
+{
+    match kind {
+        Kind::Axis(a) => Some(Word::Axis(a, value)),
+        Kind::Centre(a) => Some(Word::Centre(a, value)),
+        _ => None,
+    }
+}
+
 /// A letter and the number directly after it.
 fn attached(kind: Kind, n: Number<'_>) -> Option<Word<Value>>
     ensures value { (line : List ℕ) → word_of kind (num_is n.entry) ≡ option_map (word_is line) result }
 {
     match kind {
-        Kind::Axis(a) => {
+        Kind::Axis(_) | Kind::Centre(_) => {
             let thousandths = n.thousandths()?;
-            Some(Word::Axis(
-                a,
-                Value::Number {
-                    minus: false,
-                    thousandths,
-                },
-            ))
-        }
-        Kind::Centre(a) => {
-            let thousandths = n.thousandths()?;
-            Some(Word::Centre(
-                a,
-                Value::Number {
-                    minus: false,
-                    thousandths,
-                },
-            ))
+            let minus = false;
+            valued(kind, Value::Number { minus, thousandths })
         }
         Kind::Feed => Some(Word::Feed(n.thousandths()?)),
         Kind::Speed => Some(Word::Speed(n.thousandths()?)),
         Kind::Tool => Some(Word::Tool(n.digits(TOOL_DIGITS)?)),
         Kind::Action => Some(Word::Action(n.digits(ACTION_DIGITS)?)),
         Kind::Function => Some(Word::Function(function(n)?)),
-        Kind::Nothing => None,
     }
 }
 
@@ -82,17 +77,8 @@ fn apart(line: &[u8], kind: Kind, at: usize) -> Option<(Word<Value>, usize)>
     ensures value { spaced_of kind (tokens line.now at) ≡ read_by (word_is line.now) line.now result }
     ensures past { Past line.now at result }
 {
-    match kind {
-        Kind::Axis(a) => {
-            let (v, next) = signed(line, at)?;
-            Some((Word::Axis(a, v), next))
-        }
-        Kind::Centre(a) => {
-            let (v, next) = signed(line, at)?;
-            Some((Word::Centre(a, v), next))
-        }
-        _ => None,
-    }
+    let (value, next) = signed(line, at)?;
+    Some((valued(kind, value)?, next))
 }
 
 /// The word that WALIMON or WALIMOF is.
@@ -113,9 +99,9 @@ fn word(line: &[u8], at: usize) -> Option<(Word<Value>, usize)>
 {
     let (t, next) = token(line, at);
     match t {
-        Token::Name(n) => Some((area(Command::of(n))?, next)),
-        Token::Word(l, n) => Some((attached(Kind::of(l), n)?, next)),
-        Token::Letter(l) => apart(line, Kind::of(l), next),
+        Token::Name(n) => Some((area(Command::of(n)?)?, next)),
+        Token::Word(l, n) => Some((attached(Kind::of(l)?, n)?, next)),
+        Token::Letter(l) => apart(line, Kind::of(l)?, next),
         _ => None,
     }
 }
