@@ -1,18 +1,16 @@
 //! The motion that a line of words makes.
 ghost use Rattle.std.specs.Prelude.{◌≡◌, pos, ◌+ℤ◌};
 ghost use Rattle.std.specs.Option.{unwrap_or};
-ghost use Rattle.motions.specs.Axes.{coordinate};
-ghost use Rattle.rules.specs.Values.{by_axis};
 ghost use Rattle.rules.specs.Moves.{centre_of, kind_of, misplaced as misplaced_by, row_from, framed as framed_by, counted};
 ghost use Rattle.rules.specs.State.{no_frame};
 ghost use Rattle.rules.specs.Model.{centre_in_reach, kind_in_reach, row_in_reach, Judged};
 
 use crate::ends::{end_of, within};
-use crate::functions::{any, framed};
+use crate::functions::framed;
 use crate::state::{Frame, Functions, Interpolation, Named, Zeros};
 use algebra::vector::Vector;
 use forms::said::Words;
-use motions::axes::{Axis, Position};
+use motions::axes::Position;
 use motions::motion::Motion;
 use motions::ranges::CENTRE_RANGE;
 use motions::refusal::Reason;
@@ -25,17 +23,6 @@ fn from_start(at: i32, step: Option<i64>) -> i128
     match step {
         Some(step) => at as i128 + step as i128,
         None => at as i128,
-    }
-}
-
-/// What I, J or K says of an axis, if it stands in the line.
-fn of_axis(centres: &Named<i64>, axis: Axis) -> Option<i64>
-    ensures value { result ≡ coordinate axis (by_axis centres.now) }
-{
-    match axis {
-        Axis::X => centres.x,
-        Axis::Y => centres.y,
-        Axis::Z => centres.z,
     }
 }
 
@@ -70,8 +57,8 @@ impl Standing<'_> {
         ensures value { result ≡ centre_in_reach (centre_of self.now.functions.now.plane self.now.at centres.now) }
     {
         let plane = self.functions.plane;
-        let u = from_start(self.at.along(plane.u()), of_axis(centres, plane.u()));
-        let v = from_start(self.at.along(plane.v()), of_axis(centres, plane.v()));
+        let u = from_start(self.at.along(plane.u()), centres.along(plane.u()));
+        let v = from_start(self.at.along(plane.v()), centres.along(plane.v()));
         in_reach(u, v)
     }
 
@@ -98,8 +85,8 @@ impl Standing<'_> {
         ensures value { result ≡ misplaced_by self.now.functions.now.interpolation self.now.functions.now.plane centres.now }
     {
         match self.functions.interpolation {
-            Interpolation::Rapid | Interpolation::Line => any(centres),
-            Interpolation::Arc(_) => of_axis(centres, self.functions.plane.w()).is_some(),
+            Interpolation::Rapid | Interpolation::Line => !centres.is_empty(),
+            Interpolation::Arc(_) => centres.along(self.functions.plane.w()).is_some(),
         }
     }
 

@@ -4,7 +4,7 @@ ghost use Rattle.rules.specs.Moves.{settled, moves, acts};
 ghost use Rattle.rules.specs.Model.{state_of, came_to, Unchanged};
 
 use super::{Done, Goes, MOST_MOTIONS, Made, RunState, Step};
-use crate::functions::{any, framed, in_force, stops};
+use crate::functions::{framed, in_force, stops};
 use crate::paths::Standing;
 use forms::said::Words;
 use motions::refusal::{Reason, Refusal};
@@ -62,7 +62,7 @@ impl RunState {
         ensures value { came_to self.old.due self.new result ≡ acts words.now (state_of self.old) }
         ensures same { Unchanged self.old self.new result }
     {
-        if any(&words.axes) || any(&words.centres) {
+        if !words.axes.is_empty() || !words.centres.is_empty() {
             return self.moves(words);
         }
         self.functions = in_force(words, self.functions);

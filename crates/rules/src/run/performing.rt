@@ -1,5 +1,6 @@
 //! What the lines other than words do.
 ghost use Rattle.std.specs.Prelude.{◌≡◌, false, None};
+ghost use Rattle.motions.specs.Refusals.{refused_on};
 ghost use Rattle.motions.specs.declared.refusal.Reason.TheVariants.{ValueRange};
 ghost use Rattle.rules.specs.Values.{named, named_target};
 ghost use Rattle.rules.specs.State.{or_refuse};
@@ -53,13 +54,9 @@ impl Done {
 impl RunState {
     /// The refusal of the line that is due.
     pub(super) fn refusal(&self, reason: Reason) -> Refusal
-        ensures value { result ≡ record { reason = reason; line = self.now.due; motion = 0 } }
+        ensures value { result ≡ refused_on reason self.now.due }
     {
-        Refusal {
-            reason,
-            line: self.due,
-            motion: 0,
-        }
+        Refusal::of_line(reason, self.due)
     }
 
     /// G25 and G26: sets limits of the working area.
@@ -67,9 +64,8 @@ impl RunState {
         ensures value { came_to self.old.due self.new result ≡ or_refuse ValueRange (state_of self.old) (new_limits upper values.now (state_of self.old).modal.limits) (λ l. sets (with_limits l (state_of self.old).modal) (state_of self.old)) }
         ensures same { Unchanged self.old self.new result }
     {
-        self.limits = new_limits(self.limits, upper, values).ok_or(self.refusal(
-            Reason::ValueRange,
-        ))?;
+        let limits = new_limits(self.limits, upper, values);
+        self.limits = limits.ok_or(self.refusal(Reason::ValueRange))?;
         Ok(Done::going(Goes::On))
     }
 

@@ -52,11 +52,7 @@ impl Run {
         let count = source.count();
         let line = self.state.due;
         if line > count {
-            return Err(Refusal {
-                reason: Reason::NoEnd,
-                line: count,
-                motion: 0,
-            });
+            return Err(Refusal::of_line(Reason::NoEnd, count));
         }
         if self.left == 0 {
             return Err(self.state.refusal(Reason::LinesRun));
