@@ -1,14 +1,15 @@
 -- What is answered to the row of a line, from the tests of its parts. Assumes nothing.
 use Rattle.std.proofs.Common.{◌≡◌, Bool, true, false, cond, not, ◌||◌, ℤ, Some, None, sym, refl, ap, ◌∙◌}
 use Rattle.std.proofs.lemmas.Bool.{and_left, and_right, and_from, cond-true, cond-false}
+use Rattle.algebra.specs.declared.vector.Vector.{Vector}
 use Rattle.motions.specs.declared.axes.Axes.{Axes}
 use Rattle.motions.specs.declared.refusal.Reason.{Reason}
 use Rattle.motions.specs.declared.refusal.Reason.TheVariants.{MotionRange, ArcRule}
 use Rattle.motions.specs.declared.row.PathKind.{PathKind}
 use Rattle.motions.specs.declared.row.Row.{Row}
 use Rattle.motions.specs.Motions.{centre_in_range, row_in_range, keeps_arc_rule, fault}
-use Rattle.motions.specs.Ranges.{each_within, position_range}
-use Rattle.rules.specs.Model.{each_in_reach, kind_in_reach, row_in_reach}
+use Rattle.motions.specs.Ranges.{within, each_within, position_range, centre_range}
+use Rattle.rules.specs.Model.{in_reach, centre_in_reach, each_in_reach, kind_in_reach, row_in_reach}
 use Rattle.rules.specs.Moves.{fault_by}
 
 -- what is there only where a test passes
@@ -19,6 +20,13 @@ not_there false x e = refl
 pub there : {A : Type 0} (b : Bool) (x y : A) → Some y ≡ cond b (Some x) None → (b ≡ true) × (y ≡ x)
 there true x y e = (refl, cc)
 there false x y e = (cc, cc)
+
+-- a centre, from its two coordinates
+pub centre_reached : (c : Vector) (u v : ℤ) → Some u ≡ in_reach centre_range c.u → Some v ≡ in_reach centre_range c.v → Some (record { u = u; v = v }) ≡ centre_in_reach c
+centre_reached c u v e f =
+    let p = there (within centre_range c.u) c.u u e in
+    let q = there (within centre_range c.v) c.v v f in
+    (λ i. Some (record { u = p.1 i; v = q.1 i })) ∙ sym (cond-true _ _ _ (and_from _ _ p.0 q.0))
 
 module _ (m : Row) where
   pub end_beyond : None ≡ each_in_reach m.end → None ≡ row_in_reach m

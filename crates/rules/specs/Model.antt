@@ -1,4 +1,5 @@
 -- What the values of the code stand for. Assumes nothing.
+--     in_reach b z       the number z, where it lies from -b to b
 --     each_in_reach t    the three of t, where each is a coordinate in range
 --     centre_in_reach, kind_in_reach, row_in_reach  the same of a centre, of the centre of an arc, of the end and the centre of a row
 --     Judged wrong m r   r is what is answered to the row m, misplaced words or not: its motion, or its fault
@@ -43,6 +44,9 @@ use Rattle.rules.specs.Steps.{most_repeats}
 
 abbrev pub no_repeat : Repeat
 no_repeat = record { line = 0; left = 0 }
+
+abbrev pub in_reach : ℕ → ℤ → Option ℤ
+in_reach b z = cond (within b z) (Some z) None
 
 abbrev pub each_in_reach : Axes ℤ → Option (Axes ℤ)
 each_in_reach t = cond (each_within position_range t) (Some t) None

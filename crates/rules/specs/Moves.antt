@@ -4,6 +4,7 @@
 --     counted ws f       what counts of it in the line: nothing where G53 stands
 --     goal_of m from zero shift o   where an axis goes from `from` whose value is o
 --     end_of fs f z at v  where the line's motion ends
+--     centre_along a at c   the coordinate of an arc's centre along the axis a: the start's, and what I, J or K adds to it
 --     centre_of l at c   the centre of an arc in the plane l: the start, and the plane's two of I, J and K
 --     row_from fs f z at ws   the numbers of the line's motion from the position `at`, the functions fs being in force and f counting
 --     row_of ws s         the same, its functions being in force in s
@@ -15,6 +16,7 @@ use Rattle.std.specs.Prelude.{ℕ, ◌+◌, Bool, true, false, cond, not, ◌||�
 use Rattle.std.specs.Option.{option_map, unwrap_or}
 use Rattle.algebra.specs.declared.vector.Vector.{Vector}
 use Rattle.motions.specs.declared.axes.Axes.{Axes}
+use Rattle.motions.specs.declared.axes.Axis.{Axis}
 use Rattle.motions.specs.declared.axes.Plane.{Plane}
 use Rattle.motions.specs.declared.refusal.Reason.{Reason}
 use Rattle.motions.specs.declared.refusal.Reason.TheVariants.{MotionRange, ArcRule, MotionsMade}
@@ -73,11 +75,11 @@ end_of m f z at v = record {
   z = goal_of m at.z (zero_of z f.slot).z f.shift.z v.z;
 }
 
+abbrev pub centre_along : Axis → Axes ℤ → Each ℤ → ℤ
+centre_along a at c = coordinate a at +ℤ unwrap_or (coordinate a c) (pos 0)
+
 abbrev pub centre_of : Plane → Axes ℤ → Each ℤ → Vector
-centre_of l at c = record {
-  u = coordinate (u_axis l) at +ℤ unwrap_or (coordinate (u_axis l) c) (pos 0);
-  v = coordinate (v_axis l) at +ℤ unwrap_or (coordinate (v_axis l) c) (pos 0);
-}
+centre_of l at c = record { u = centre_along (u_axis l) at c; v = centre_along (v_axis l) at c }
 
 abbrev pub kind_of : Interpolation → Plane → Axes ℤ → Each ℤ → PathKind
 kind_of Rapid l at c = path.Rapid

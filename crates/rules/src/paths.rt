@@ -1,44 +1,20 @@
 //! The motion that a line of words makes.
-ghost use Rattle.std.specs.Prelude.{◌≡◌, pos, ◌+ℤ◌};
-ghost use Rattle.std.specs.Option.{unwrap_or};
-ghost use Rattle.rules.specs.Moves.{centre_of, kind_of, misplaced as misplaced_by, row_from, framed as framed_by, counted};
+ghost use Rattle.std.specs.Prelude.{◌≡◌};
+ghost use Rattle.motions.specs.Ranges.{centre_range};
+ghost use Rattle.rules.specs.Moves.{centre_along as centre_along_is, centre_of, kind_of, misplaced as misplaced_by, row_from, framed as framed_by, counted};
 ghost use Rattle.rules.specs.State.{no_frame};
-ghost use Rattle.rules.specs.Model.{centre_in_reach, kind_in_reach, row_in_reach, Judged};
+ghost use Rattle.rules.specs.Model.{in_reach as within_reach, centre_in_reach, kind_in_reach, row_in_reach, Judged};
 
-use crate::ends::{end_of, within};
+use crate::ends::in_reach;
 use crate::functions::framed;
 use crate::state::{Frame, Functions, Interpolation, Named, Zeros};
 use algebra::vector::Vector;
 use forms::said::Words;
-use motions::axes::Position;
+use motions::axes::{Axis, Position};
 use motions::motion::Motion;
 use motions::ranges::CENTRE_RANGE;
 use motions::refusal::Reason;
 use motions::row::{Arc, PathKind, Row};
-
-/// A coordinate of the start, and what I, J or K adds to it.
-fn from_start(at: i32, step: Option<i64>) -> i128
-    ensures value { result ≡ at +ℤ unwrap_or step (pos 0) }
-{
-    match step {
-        Some(step) => at as i128 + step as i128,
-        None => at as i128,
-    }
-}
-
-/// The centre with two coordinates, if they are in range.
-fn in_reach(u: i128, v: i128) -> Option<Vector>
-    ensures value { result ≡ centre_in_reach (record { u = u; v = v }) }
-{
-    if within(CENTRE_RANGE, u) && within(CENTRE_RANGE, v) {
-        Some(Vector {
-            u: u as i32,
-            v: v as i32,
-        })
-    } else {
-        None
-    }
-}
 
 /// What a line's motion is made from beside its words and the zero and shift record.
 #[derive(Clone, Copy, Drop)]
@@ -52,14 +28,22 @@ pub(crate) struct Standing<'a> {
 }
 
 impl Standing<'_> {
+    /// One coordinate of an arc's centre, the start's and what I, J or K adds to it, if it is in range.
+    fn centre_along(&self, axis: Axis, centres: &Named<i64>) -> Option<i32>
+        ensures value { result ≡ within_reach centre_range (centre_along_is axis self.now.at centres.now) }
+    {
+        let step = centres.along(axis).map_or(0, i128::from);
+        in_reach(CENTRE_RANGE, i128::from(self.at.along(axis)) + step)
+    }
+
     /// The centre of an arc, if it is in range.
     fn centre(&self, centres: &Named<i64>) -> Option<Vector>
         ensures value { result ≡ centre_in_reach (centre_of self.now.functions.now.plane self.now.at centres.now) }
     {
         let plane = self.functions.plane;
-        let u = from_start(self.at.along(plane.u()), centres.along(plane.u()));
-        let v = from_start(self.at.along(plane.v()), centres.along(plane.v()));
-        in_reach(u, v)
+        let u = self.centre_along(plane.u(), centres)?;
+        let v = self.centre_along(plane.v(), centres)?;
+        Some(Vector { u, v })
     }
 
     /// How the line gets from its start to its end, if the centre of an arc is in range.
@@ -94,13 +78,7 @@ impl Standing<'_> {
     fn row(&self, frame: &Frame, words: &Words<i64>) -> Option<Row>
         ensures value { result ≡ row_in_reach (row_from self.now.functions.now frame.now self.now.zeros.now self.now.at words.now) }
     {
-        let end = end_of(
-            self.functions.measure,
-            frame,
-            self.zeros,
-            self.at,
-            &words.axes,
-        )?;
+        let end = self.end(frame, &words.axes)?;
         let kind = self.kind(&words.centres)?;
         Some(Row {
             kind,

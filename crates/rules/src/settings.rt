@@ -4,7 +4,7 @@ ghost use Rattle.std.specs.Option.{option_map};
 ghost use Rattle.geometry.specs.Model.{limits_of};
 ghost use Rattle.rules.specs.Steps.{limit_on, new_limits, added as added_to, shifted as shifted_by};
 
-use crate::ends::within;
+use crate::ends::in_reach;
 use crate::state::Named;
 use geometry::limit_box::LimitBox;
 use motions::axes::{Axes, Axis};
@@ -18,13 +18,8 @@ fn limited(area: LimitBox, upper: bool, axis: Axis, value: Option<i64>) -> Optio
     let Some(v) = value else {
         return Some(area);
     };
-    if !within(POSITION_RANGE, v as i128) {
-        return None;
-    }
-    match area.with(upper, axis, Some(v as i32)) {
-        Ok(area) => Some(area),
-        Err(_) => None,
-    }
+    let limit = in_reach(POSITION_RANGE, i128::from(v))?;
+    area.with(upper, axis, Some(limit)).ok()
 }
 
 /// The area with the limits that the line names on one side; nothing where one is out of range.
