@@ -2,7 +2,8 @@
 use Rattle.std.proofs.Common.{◌≡◌, ℕ, zero, suc, ◌-◌, ◌<◌, Bool, true, false, cond, ◌&&◌, List, is_none, Some, None, Option, sym, refl, ap, ◌∙◌, arith}
 use Rattle.std.specs.Option.{option_map}
 use Rattle.lexer.specs.Tokens.{Token, first, rest}
-use Rattle.lexer.specs.Model.{tokens}
+use Rattle.lexer.specs.Model.{ahead}
+use Rattle.lexer.specs.declared.cursor.Cursor.{Cursor}
 use Rattle.motions.specs.Axes.{none_named}
 use Rattle.motions.specs.declared.axes.Axis as machine
 use Rattle.motions.specs.declared.axes.Axis.TheVariants.{X, Y, Z}
@@ -88,18 +89,18 @@ unfolding words_from
 words_is_lem zero ws ts h = absurd (omega arith)
 words_is_lem (suc f) ws ts h = let p : f ≡ suc f - 1 = omega arith in ap (λ g. pick (is_end (first ts)) (λ u. Some ws) (λ u. beside (one_word (first u) (rest u)) ws (λ vs v. words_from g vs v)) ts) p
 
-module _ (line : List ℕ) (ws : Words Value) (p f : ℕ) (enough : 0 < f) where
-  by_end : (b : Bool) → b ≡ is_end (first (tokens line p)) → words_from f (words_is line ws) (tokens line p) ≡ pick b (λ u. Some (words_is line ws)) (λ u. beside (one_word (first u) (rest u)) (words_is line ws) (λ vs v. words_from (f - 1) vs v)) (tokens line p)
-  by_end b e = words_is_lem f (words_is line ws) (tokens line p) enough ∙ ap (λ b. pick b (λ u. Some (words_is line ws)) (λ u. beside (one_word (first u) (rest u)) (words_is line ws) (λ vs v. words_from (f - 1) vs v)) (tokens line p)) (sym e)
+module _ (line : List ℕ) (ws : Words Value) (c : Cursor) (inside : c.line.now ≡ line) (f : ℕ) (enough : 0 < f) where
+  by_end : (b : Bool) → b ≡ is_end (first (ahead c)) → words_from f (words_is line ws) (ahead c) ≡ pick b (λ u. Some (words_is line ws)) (λ u. beside (one_word (first u) (rest u)) (words_is line ws) (λ vs v. words_from (f - 1) vs v)) (ahead c)
+  by_end b e = words_is_lem f (words_is line ws) (ahead c) enough ∙ ap (λ b. pick b (λ u. Some (words_is line ws)) (λ u. beside (one_word (first u) (rest u)) (words_is line ws) (λ vs v. words_from (f - 1) vs v)) (ahead c)) (sym e)
 
-  pub at_the_end : true ≡ is_end (first (tokens line p)) → words_from f (words_is line ws) (tokens line p) ≡ Some (words_is line ws)
+  pub at_the_end : true ≡ is_end (first (ahead c)) → words_from f (words_is line ws) (ahead c) ≡ Some (words_is line ws)
   at_the_end e = by_end true e
 
-  pub no_word : false ≡ is_end (first (tokens line p)) → one_word (first (tokens line p)) (rest (tokens line p)) ≡ None → words_from f (words_is line ws) (tokens line p) ≡ None
+  pub no_word : false ≡ is_end (first (ahead c)) → one_word (first (ahead c)) (rest (ahead c)) ≡ None → words_from f (words_is line ws) (ahead c) ≡ None
   no_word e h = by_end false e ∙ ap (λ o. beside o (words_is line ws) (λ vs v. words_from (f - 1) vs v)) h
 
-  pub one_word_lem : (w : Word Value) (q : ℕ) (o : Option (Words Value)) → false ≡ is_end (first (tokens line p)) → one_word (first (tokens line p)) (rest (tokens line p)) ≡ Some (word_is line w, tokens line q) → o ≡ entered w ws → words_from f (words_is line ws) (tokens line p) ≡ (option_map (words_is line) o >>= (λ u. words_from (f - 1) u (tokens line q)))
-  one_word_lem w q o e h g =
+  pub one_word_lem : (w : Word Value) (d : Cursor) (o : Option (Words Value)) → false ≡ is_end (first (ahead c)) → one_word (first (ahead c)) (rest (ahead c)) ≡ Some (word_is c.line.now w, ahead d) → o ≡ entered w ws → words_from f (words_is line ws) (ahead c) ≡ (option_map (words_is line) o >>= (λ u. words_from (f - 1) u (ahead d)))
+  one_word_lem w d o e h g =
       by_end false e
-      ∙ ap (λ o. beside o (words_is line ws) (λ vs v. words_from (f - 1) vs v)) h
-      ∙ ap (λ o. o >>= (λ u. words_from (f - 1) u (tokens line q))) (entered_said line w ws ∙ ap (option_map (words_is line)) (sym g))
+      ∙ ap (λ o. beside o (words_is line ws) (λ vs v. words_from (f - 1) vs v)) (h ∙ ap (λ s. Some (word_is s w, ahead d)) inside)
+      ∙ ap (λ o. o >>= (λ u. words_from (f - 1) u (ahead d))) (entered_said line w ws ∙ ap (option_map (words_is line)) (sym g))
