@@ -4,9 +4,10 @@ ghost use Rattle.rules.specs.Moves.{in_force, framed as framed_by, stops as stop
 
 use crate::state::{Frame, Functions};
 use forms::said::Words;
+use sums::amount::Amount;
 
 /// The functions with those that the line sets.
-pub(crate) fn in_force(words: &Words<i64>, functions: Functions) -> Functions
+pub(crate) fn in_force(words: &Words<Amount>, functions: Functions) -> Functions
     ensures value { result ≡ in_force words.now functions }
 {
     Functions {
@@ -18,7 +19,7 @@ pub(crate) fn in_force(words: &Words<i64>, functions: Functions) -> Functions
 }
 
 /// The zero and shift record with the zero point that the line chooses.
-pub(crate) fn framed(words: &Words<i64>, frame: Frame) -> Frame
+pub(crate) fn framed(words: &Words<Amount>, frame: Frame) -> Frame
     ensures value { result ≡ framed_by words.now frame }
 {
     Frame {

@@ -15,6 +15,7 @@ use motions::motion::Motion;
 use motions::ranges::CENTRE_RANGE;
 use motions::refusal::Reason;
 use motions::row::{Arc, PathKind, Row};
+use sums::amount::Amount;
 
 /// What a line's motion is made from beside its words and the zero and shift record.
 #[derive(Clone, Copy, Drop)]
@@ -29,15 +30,15 @@ pub(crate) struct Standing<'a> {
 
 impl Standing<'_> {
     /// One coordinate of an arc's centre, the start's and what I, J or K adds to it, if it is in range.
-    fn centre_along(&self, axis: Axis, centres: &Named<i64>) -> Option<i32>
+    fn centre_along(&self, axis: Axis, centres: &Named<Amount>) -> Option<i32>
         ensures value { result ≡ within_reach centre_range (centre_along_is axis self.now.at centres.now) }
     {
-        let step = centres.along(axis).map_or(0, i128::from);
-        in_reach(CENTRE_RANGE, i128::from(self.at.along(axis)) + step)
+        let step = centres.along(axis).map_or(0, i64::from);
+        in_reach(CENTRE_RANGE, i64::from(self.at.along(axis)) + step)
     }
 
     /// The centre of an arc, if it is in range.
-    fn centre(&self, centres: &Named<i64>) -> Option<Vector>
+    fn centre(&self, centres: &Named<Amount>) -> Option<Vector>
         ensures value { result ≡ centre_in_reach (centre_of self.now.functions.now.plane self.now.at centres.now) }
     {
         let plane = self.functions.plane;
@@ -47,7 +48,7 @@ impl Standing<'_> {
     }
 
     /// How the line gets from its start to its end, if the centre of an arc is in range.
-    fn kind(&self, centres: &Named<i64>) -> Option<PathKind>
+    fn kind(&self, centres: &Named<Amount>) -> Option<PathKind>
         ensures value { result ≡ kind_in_reach (kind_of self.now.functions.now.interpolation self.now.functions.now.plane self.now.at centres.now) }
     {
         match self.functions.interpolation {
@@ -65,7 +66,7 @@ impl Standing<'_> {
     }
 
     /// Whether I, J or K stands where none belongs.
-    fn misplaced(&self, centres: &Named<i64>) -> bool
+    fn misplaced(&self, centres: &Named<Amount>) -> bool
         ensures value { result ≡ misplaced_by self.now.functions.now.interpolation self.now.functions.now.plane centres.now }
     {
         match self.functions.interpolation {
@@ -75,7 +76,7 @@ impl Standing<'_> {
     }
 
     /// The numbers of the line's motion, if its end and centre are in range.
-    fn row(&self, frame: &Frame, words: &Words<i64>) -> Option<Row>
+    fn row(&self, frame: &Frame, words: &Words<Amount>) -> Option<Row>
         ensures value { result ≡ row_in_reach (row_from self.now.functions.now frame.now self.now.zeros.now self.now.at words.now) }
     {
         let end = self.end(frame, &words.axes)?;
@@ -88,7 +89,7 @@ impl Standing<'_> {
     }
 
     /// The line's motion from where the tool stands, or why it makes none.
-    fn motion(&self, frame: &Frame, words: &Words<i64>) -> Result<Motion, Reason>
+    fn motion(&self, frame: &Frame, words: &Words<Amount>) -> Result<Motion, Reason>
         ensures value { Judged (misplaced_by self.now.functions.now.interpolation self.now.functions.now.plane words.now.centres) (row_from self.now.functions.now frame.now self.now.zeros.now self.now.at words.now) result }
     {
         let row = self.row(frame, words).ok_or(Reason::MotionRange)?;
@@ -100,7 +101,7 @@ impl Standing<'_> {
     }
 
     /// The motion of a line with G53: zero and shift count as 0, and stand again after it.
-    fn bare_motion(&self, frame: &mut Frame, words: &Words<i64>) -> Result<Motion, Reason>
+    fn bare_motion(&self, frame: &mut Frame, words: &Words<Amount>) -> Result<Motion, Reason>
         ensures value { Judged (misplaced_by self.now.functions.now.interpolation self.now.functions.now.plane words.now.centres) (row_from self.now.functions.now no_frame self.now.zeros.now self.now.at words.now) result }
         ensures stands { frame.new ≡ frame.old }
     {
@@ -114,7 +115,7 @@ impl Standing<'_> {
     pub(crate) fn line_motion(
         &self,
         frame: &mut Frame,
-        words: &Words<i64>,
+        words: &Words<Amount>,
     ) -> Result<Motion, Reason>
         ensures value { Judged (misplaced_by self.now.functions.now.interpolation self.now.functions.now.plane words.now.centres) (row_from self.now.functions.now (counted words.now (framed_by words.now frame.old)) self.now.zeros.now self.now.at words.now) result }
         ensures stands { frame.new ≡ frame.old }

@@ -1,6 +1,7 @@
 //! What holds in a run until it is set again: plain data.
 pub use forms::said::{Interpolation, Measure, Named, Slot};
 use motions::axes::{Axes, Plane};
+use sums::amount::Amount;
 
 /// The functions in force; `watched` is whether the working area is on.
 #[derive(Clone, Copy, Drop, PartialEq, Eq)]
@@ -15,14 +16,18 @@ pub struct Functions {
 #[derive(Clone, Copy, Drop, PartialEq, Eq)]
 pub struct Frame {
     pub slot: Slot,
-    pub shift: Axes<i64>,
+    pub shift: Axes<Amount>,
 }
 
 impl Frame {
     /// No zero and no shift.
     pub const NONE: Frame = Frame {
         slot: Slot::G500,
-        shift: Axes { x: 0, y: 0, z: 0 },
+        shift: Axes {
+            x: Amount::ZERO,
+            y: Amount::ZERO,
+            z: Amount::ZERO,
+        },
     };
 }
 

@@ -8,6 +8,7 @@ use crate::functions::{framed, in_force, stops};
 use crate::paths::Standing;
 use forms::said::Words;
 use motions::refusal::{Reason, Refusal};
+use sums::amount::Amount;
 
 impl RunState {
     /// The refusal of the motion that the line would make.
@@ -22,7 +23,7 @@ impl RunState {
     }
 
     /// Makes the motion of a line.
-    fn moves(&mut self, words: &Words<i64>) -> Result<Done, Refusal>
+    fn moves(&mut self, words: &Words<Amount>) -> Result<Done, Refusal>
         ensures value { came_to self.old.due self.new result ≡ moves words.now (settled words.now (state_of self.old)) }
         ensures same { Unchanged self.old self.new result }
     {
@@ -58,7 +59,7 @@ impl RunState {
     }
 
     /// Does what a line of words says.
-    pub(super) fn acts(&mut self, words: &Words<i64>) -> Result<Done, Refusal>
+    pub(super) fn acts(&mut self, words: &Words<Amount>) -> Result<Done, Refusal>
         ensures value { came_to self.old.due self.new result ≡ acts words.now (state_of self.old) }
         ensures same { Unchanged self.old self.new result }
     {

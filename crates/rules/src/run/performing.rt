@@ -6,7 +6,6 @@ ghost use Rattle.rules.specs.Values.{named, named_target};
 ghost use Rattle.rules.specs.State.{or_refuse};
 ghost use Rattle.rules.specs.Targets.{target as target_is};
 ghost use Rattle.rules.specs.Steps.{new_limits, shifted as shifted_by, shift_from, with_limits, with_shift, sets, compares as compares_by, holds as holds_if, jumps, repeats, performs};
-ghost use Rattle.rules.specs.Sources.{InRange};
 ghost use Rattle.rules.specs.Model.{state_of, came_to, Unchanged};
 
 use super::{Done, Goes, RunState, Step};
@@ -15,6 +14,7 @@ use crate::source::Source;
 use crate::state::{Frame, Named, Repeat};
 use forms::said::{Comparison, Place, Statement, Target, Test};
 use motions::refusal::{Reason, Refusal};
+use sums::amount::Amount;
 
 fn compares(how: Comparison, left: i64, right: i64) -> bool
     ensures value { result ≡ compares_by how left right }
@@ -30,10 +30,10 @@ fn compares(how: Comparison, left: i64, right: i64) -> bool
 }
 
 /// Whether the comparison after IF holds, where there is one.
-fn holds(test: Option<Test<i64>>) -> bool
+fn holds(test: Option<Test<Amount>>) -> bool
     ensures value { result ≡ holds_if test }
 {
-    test.is_none_or(|test| compares(test.how, test.left, test.right))
+    test.is_none_or(|test| compares(test.how, i64::from(test.left), i64::from(test.right)))
 }
 
 impl Done {
@@ -60,7 +60,7 @@ impl RunState {
     }
 
     /// G25 and G26: sets limits of the working area.
-    fn limits(&mut self, upper: bool, values: &Named<i64>) -> Result<Done, Refusal>
+    fn limits(&mut self, upper: bool, values: &Named<Amount>) -> Result<Done, Refusal>
         ensures value { came_to self.old.due self.new result ≡ or_refuse ValueRange (state_of self.old) (new_limits upper values.now (state_of self.old).modal.limits) (λ l. sets (with_limits l (state_of self.old).modal) (state_of self.old)) }
         ensures same { Unchanged self.old self.new result }
     {
@@ -70,7 +70,7 @@ impl RunState {
     }
 
     /// TRANS and ATRANS: sets the shift, or adds to it.
-    fn shifts(&mut self, adds: bool, values: &Named<i64>) -> Result<Done, Refusal>
+    fn shifts(&mut self, adds: bool, values: &Named<Amount>) -> Result<Done, Refusal>
         ensures value { came_to self.old.due self.new result ≡ or_refuse ValueRange (state_of self.old) (shifted_by (shift_from adds self.old.frame.shift) values.now) (λ t. sets (with_shift t (state_of self.old).modal) (state_of self.old)) }
         ensures same { Unchanged self.old self.new result }
     {
@@ -89,7 +89,7 @@ impl RunState {
         source: &S,
         forward: bool,
         target: Target<Place>,
-        test: Option<Test<i64>>,
+        test: Option<Test<Amount>>,
     ) -> Result<Done, Refusal>
         ensures value { came_to self.now.due self.now result ≡ jumps (holds_if test) (target_is (S.Source.lines source.now) forward (named_target (S.Source.names source.now) target) self.now.due) (state_of self.now) }
     {
@@ -130,9 +130,8 @@ impl RunState {
     pub(super) fn performs<S: Source>(
         &mut self,
         source: &S,
-        says: Statement<i64, Place>,
+        says: Statement<Amount, Place>,
     ) -> Result<Done, Refusal>
-        requires ranged { InRange says }
         ensures value { came_to self.old.due self.new result ≡ performs (S.Source.lines source.now) (named (S.Source.names source.now) says) (state_of self.old) }
         ensures same { Unchanged self.old self.new result }
     {
@@ -142,7 +141,7 @@ impl RunState {
             Statement::Limits { upper, axes } => self.limits(upper, &axes),
             Statement::Shift { adds, axes } => self.shifts(adds, &axes),
             Statement::Assign { parameter, sum } => {
-                self.params.set(parameter as usize, sum);
+                self.params.set(parameter as usize, i64::from(sum));
                 Ok(Done::going(Goes::On))
             }
             Statement::Jump {

@@ -1,5 +1,4 @@
 use Rattle.std.proofs.Common.{◌≡◌, ℤ, lit<, refl, ap, ◌∙◌, rules, w32, w64}
-use mir.Syntax.{w128}
 use Rattle.std.proofs.lemmas.Int.{to_z-of_z}
 use Rattle.motions.specs.Axes.{coordinate}
 use Rattle.motions.specs.declared.axes.Axes.{Axes}
@@ -29,7 +28,6 @@ returns c =
     let a = c.args.axis in
     let from = to_z-of_z w32 c.along.result (search rules) ∙ c.along.ensures.value in
     let zero = to_z-of_z w32 c.along-2.result (search rules) ∙ c.along-2.ensures.value ∙ ap (coordinate a) c.zero-zero.ensures.value in
-    let shift = to_z-of_z w64 c.along-3.result (search rules) ∙ c.along-3.ensures.value in
     let e : c.goal-goal.result ≡ coordinate a (end_of m f s.zeros.now s.at v) =
-    c.goal-goal.ensures.value ∙ (λ i. goal_of m (from i) (zero i) (shift i) (c.along-4.ensures.value i)) ∙ along_end a m f s.zeros.now s.at v in
-    record { value = c.in_reach.ensures.value (lit< tt) ∙ ap (in_reach position_range) (to_z-of_z w128 c.goal-goal.result (record { sfits = c.goal-goal.type_inv }) ∙ e) }
+    c.goal-goal.ensures.value ∙ (λ i. goal_of m (from i) (zero i) (c.along-3.ensures.value i) (c.along-4.ensures.value i)) ∙ along_end a m f s.zeros.now s.at v in
+    record { value = c.in_reach.ensures.value (lit< tt) ∙ ap (in_reach position_range) (to_z-of_z w64 c.goal-goal.result (record { sfits = c.goal-goal.type_inv }) ∙ e) }
