@@ -11,8 +11,8 @@ impl Arc {
         ensures value { result ≡ square_of self.now position.now }
     {
         let at = self.plane.flat(position);
-        let u = at.u as i128 - self.centre.u as i128;
-        let v = at.v as i128 - self.centre.v as i128;
+        let u = i128::from(at.u) - i128::from(self.centre.u);
+        let v = i128::from(at.v) - i128::from(self.centre.v);
         u * u + v * v
     }
 
@@ -21,10 +21,7 @@ impl Arc {
         ensures value { result ≡ closes_is self.now start.now end.now }
     {
         let third = self.plane.w();
-        if start.along(third) != end.along(third) {
-            return false;
-        }
         let square = self.square(start);
-        square == self.square(end) && 0 < square
+        start.along(third) == end.along(third) && square == self.square(end) && 0 < square
     }
 }

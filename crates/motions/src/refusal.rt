@@ -1,6 +1,9 @@
 //! Why a request is turned down: one type for every part of the software.
-ghost use Rattle.std.specs.Prelude.{◌≡◌};
-ghost use Rattle.motions.specs.Refusals.{number_of, refused_setting};
+ghost use Rattle.std.specs.Prelude.{◌≡◌, Some};
+ghost use Rattle.std.specs.Fmt.{decimal};
+ghost use Rattle.motions.specs.Refusals.{number_of, refused_on, refused_setting, written};
+
+use std::fmt;
 
 /// The reasons for a refusal, each with the number that a shop knows it by.
 /// Those up to 10 lie in what was handed in, those from 21 on in the state that it met.
@@ -58,14 +61,43 @@ pub struct Refusal {
 }
 
 impl Refusal {
+    /// The refusal of a line, or of a text where the line is 0, which belongs to no motion.
+    pub fn of_line(reason: Reason, line: usize) -> Refusal
+        ensures value { result ≡ refused_on reason line }
+    {
+        Refusal {
+            reason,
+            line,
+            motion: 0,
+        }
+    }
+
     /// The refusal of a setting, which belongs to no line and no motion.
     pub fn setting() -> Refusal
         ensures value { result ≡ refused_setting }
     {
-        Refusal {
-            reason: Reason::Setting,
-            line: 0,
-            motion: 0,
-        }
+        Refusal::of_line(Reason::Setting, 0)
+    }
+}
+
+/// A reason is written as its number.
+impl fmt::Display for Reason {
+    ghost output = { λ r. Some (decimal (number_of r)) };
+
+    fn fmt<W: fmt::Write>(&self, f: &mut fmt::Formatter<W>) -> fmt::Result {
+        let number = self.number();
+        write!(f, "{number}")
+    }
+}
+
+/// A refusal is written as its number, its line and its motion.
+impl fmt::Display for Refusal {
+    ghost output = { λ r. Some (written r) };
+
+    fn fmt<W: fmt::Write>(&self, f: &mut fmt::Formatter<W>) -> fmt::Result {
+        let reason = self.reason;
+        let line = self.line;
+        let motion = self.motion;
+        write!(f, "refused {reason} {line} {motion}")
     }
 }

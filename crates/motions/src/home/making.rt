@@ -5,7 +5,7 @@ ghost use Rattle.motions.specs.Settings.{home_taken, Taken};
 
 use super::Home;
 use crate::axes::Position;
-use crate::ranges::{POSITION_RANGE, each_within};
+use crate::ranges::{POSITION_RANGE, Ranged};
 use crate::refusal::Refusal;
 
 impl Home {
@@ -13,7 +13,7 @@ impl Home {
     pub fn new(position: Position) -> Result<Home, Refusal>
         ensures value { Taken (home_taken position) (λ h. home_of h ≡ position) result }
     {
-        if each_within(POSITION_RANGE, &position) {
+        if position.within(POSITION_RANGE) {
             Ok(Home { position })
         } else {
             Err(Refusal::setting())

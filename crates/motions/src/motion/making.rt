@@ -4,7 +4,7 @@ ghost use Rattle.motions.specs.Motions.{arc_in_range, centre_in_range, row_in_ra
 ghost use Rattle.motions.specs.Model.{row_of, Remade};
 
 use super::Motion;
-use crate::ranges::{CENTRE_RANGE, POSITION_RANGE, each_within, within};
+use crate::ranges::{CENTRE_RANGE, POSITION_RANGE, Ranged};
 use crate::refusal::Reason;
 use crate::row::{Arc, PathKind, Row};
 
@@ -12,7 +12,7 @@ impl Arc {
     fn in_range(&self) -> bool
         ensures value { result ≡ arc_in_range self.now }
     {
-        within(CENTRE_RANGE, self.centre.u) && within(CENTRE_RANGE, self.centre.v)
+        self.centre.u.within(CENTRE_RANGE) && self.centre.v.within(CENTRE_RANGE)
     }
 }
 
@@ -29,8 +29,8 @@ impl Row {
     fn in_range(&self) -> bool
         ensures value { result ≡ row_in_range self.now }
     {
-        each_within(POSITION_RANGE, &self.start)
-            && each_within(POSITION_RANGE, &self.end)
+        self.start.within(POSITION_RANGE)
+            && self.end.within(POSITION_RANGE)
             && self.centre_in_range()
     }
 
