@@ -1,5 +1,5 @@
 //! Writes the trace of a text.
-ghost use Rattle.language.specs.Indexing.{room_of};
+ghost use Rattle.language.specs.Indexing.{free};
 ghost use Rattle.reading.specs.Reading.{held_lines};
 ghost use Rattle.tracelist.specs.Told.{Told};
 
@@ -9,7 +9,7 @@ use forms::said::Place;
 use index::entry::Entry;
 use index::index::Index;
 use language::indexed::Indexed;
-use language::targets::enter_targets;
+use language::targets::Targets;
 use motions::refusal::Refusal;
 use reading::program::Program;
 use traces::journal::Journal;
@@ -24,15 +24,16 @@ fn run(
     labels: &mut [Entry<Place>],
     journal: &mut Journal,
 ) -> Result<(), Refusal>
-    ensures value { Told (held_lines program.now) (room_of numbers.old 0) (room_of labels.old 0) journal.new result }
+    ensures value { Told (held_lines program.now) (free numbers.old) (free labels.old) journal.new result }
 {
-    let mut numbers = Index::new(numbers);
-    let mut labels = Index::new(labels);
-    enter_targets(program, &mut numbers, &mut labels)?;
+    let mut targets = Targets {
+        numbers: Index::new(numbers),
+        labels: Index::new(labels),
+    };
+    targets.enter(program)?;
     let source = Indexed {
         program,
-        numbers: &numbers,
-        labels: &labels,
+        targets: &targets,
     };
     journal.record(&source, &setup())
 }
@@ -54,7 +55,7 @@ pub fn tell(rt: &HostRuntime, text: &[u8]) -> anyhow::Result<()> {
     let mut journal = Journal::new(heap)?;
     let end = run(&program, &mut numbers, &mut labels, &mut journal);
     for made in journal.motions() {
-        let listed = Listed(made);
+        let listed = Listed::of(made);
         println!(rt; "{listed}")?;
     }
     match end {
