@@ -8,17 +8,17 @@ use Rattle.forms.specs.Groups.{with_g, no_group}
 use Rattle.forms.specs.Kinds.{command_of}
 use Rattle.sums.specs.Sums.{◌>>=◌}
 use Rattle.forms.specs.declared.kinds.Command.{Command}
-use Rattle.forms.specs.declared.kinds.Command.TheVariants.{Walimon, Walimof, Trans, Atrans, Gotof, Gotob, If, Repeat, Nothing}
+use Rattle.forms.specs.declared.kinds.Command.TheVariants.{Walimon, Walimof, Trans, Atrans, Gotof, Gotob, If, Repeat}
 use Rattle.forms.specs.declared.said.Groups.{Groups}
 
 differs_by : (b : Bool) (P : Type 0) → Decides b P → (P → ⊥) → b ≡ false
 differs_by true P d n = absurd (n (d.0 refl))
 differs_by false P d n = refl
 
-abbrev chosen : Bool → Bool → Bool → Bool → Bool → Bool → Bool → Bool → Bool → Command
-chosen n a b c d e f g h = cond n Nothing (cond a Walimon (cond b Walimof (cond c Trans (cond d Atrans (cond e Gotof (cond f Gotob (cond g If (cond h Repeat Nothing))))))))
+abbrev chosen : Bool → Bool → Bool → Bool → Bool → Bool → Bool → Bool → Bool → Option Command
+chosen n a b c d e f g h = cond n None (cond a (Some Walimon) (cond b (Some Walimof) (cond c (Some Trans) (cond d (Some Atrans) (cond e (Some Gotof) (cond f (Some Gotob) (cond g (Some If) (cond h (Some Repeat) None))))))))
 
-pub no_command : (s : List ℕ) (shut : Bool) → not shut ≡ false → (s ≡ codes "walimon" → ⊥) → (s ≡ codes "walimof" → ⊥) → (s ≡ codes "trans" → ⊥) → (s ≡ codes "atrans" → ⊥) → (s ≡ codes "gotof" → ⊥) → (s ≡ codes "gotob" → ⊥) → (s ≡ codes "if" → ⊥) → (s ≡ codes "repeat" → ⊥) → Nothing ≡ command_of s shut
+pub no_command : (s : List ℕ) (shut : Bool) → not shut ≡ false → (s ≡ codes "walimon" → ⊥) → (s ≡ codes "walimof" → ⊥) → (s ≡ codes "trans" → ⊥) → (s ≡ codes "atrans" → ⊥) → (s ≡ codes "gotof" → ⊥) → (s ≡ codes "gotob" → ⊥) → (s ≡ codes "if" → ⊥) → (s ≡ codes "repeat" → ⊥) → None ≡ command_of s shut
 no_command s shut e a b c d f g h i =
     let other : (w : List ℕ) → (s ≡ w → ⊥) → false ≡ bytes_eq s w = (λ w n. sym (differs_by (bytes_eq s w) (s ≡ w) (bytes_eq-Decides s w) n)) in
     λ j. chosen (sym e j) (other (codes "walimon") a j) (other (codes "walimof") b j) (other (codes "trans") c j) (other (codes "atrans") d j) (other (codes "gotof") f j) (other (codes "gotob") g j) (other (codes "if") h j) (other (codes "repeat") i j)

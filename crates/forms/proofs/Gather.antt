@@ -1,17 +1,18 @@
 -- Words one after the other, beside those before them. Assumes nothing.
-use Rattle.std.proofs.Common.{◌≡◌, ℕ, zero, suc, ◌-◌, ◌<◌, Bool, true, false, cond, ◌&&◌, List, Some, None, Option, sym, refl, ap, ◌∙◌, arith}
+use Rattle.std.proofs.Common.{◌≡◌, ℕ, zero, suc, ◌-◌, ◌<◌, Bool, true, false, cond, ◌&&◌, List, is_none, Some, None, Option, sym, refl, ap, ◌∙◌, arith}
 use Rattle.std.specs.Option.{option_map}
 use Rattle.lexer.specs.Tokens.{Token, first, rest}
-use Rattle.lexer.specs.Model.{tokens}
-use Rattle.forms.specs.Groups.{once, with_g, free, no_modal, no_flag}
+use Rattle.lexer.specs.Model.{ahead}
+use Rattle.lexer.specs.declared.cursor.Cursor.{Cursor}
+use Rattle.motions.specs.Axes.{none_named}
+use Rattle.motions.specs.declared.axes.Axis as machine
+use Rattle.motions.specs.declared.axes.Axis.TheVariants.{X, Y, Z}
+use Rattle.forms.specs.Groups.{once, with_g, no_modal, no_flag}
 use Rattle.sums.specs.Sums.{Sum, ◌>>=◌, pick}
-use Rattle.forms.specs.Words.{on_axis, entered, no_axis, no_numbered, only_axes, some_axis}
+use Rattle.forms.specs.Words.{Each, on_axis, entered, no_numbered, only_axes, some_axis}
 use Rattle.forms.specs.Forms.{is_end, one_word, beside, words_from}
 use Rattle.sums.specs.Model.{value_is}
 use Rattle.forms.specs.Model.{axes_is, word_is, words_is}
-use Rattle.forms.specs.declared.said.Axes.{Axes}
-use Rattle.forms.specs.declared.said.Axis as machine
-use Rattle.forms.specs.declared.said.Axis.TheVariants.{X, Y, Z}
 use Rattle.forms.specs.declared.said.Groups.{Groups}
 use Rattle.sums.specs.declared.value.Value.{Value}
 use Rattle.forms.specs.declared.said.Word.{Word}
@@ -33,7 +34,7 @@ mapped_mapped g f None = refl
 mapped_mapped g f (Some a) = refl
 
 module _ (line : List ℕ) where
-  on_axis_lem : (a : machine.Axis) (v : Value) (s : Axes Value) → on_axis a (value_is line v) (axes_is line s) ≡ option_map (axes_is line) (on_axis a v s)
+  on_axis_lem : (a : machine.Axis) (v : Value) (s : Each Value) → on_axis a (value_is line v) (axes_is line s) ≡ option_map (axes_is line) (on_axis a v s)
   on_axis_lem X v s = once_said (value_is line) (axes_is line) s.x (record { x = Some v; y = s.y; z = s.z })
   on_axis_lem Y v s = once_said (value_is line) (axes_is line) s.y (record { x = s.x; y = Some v; z = s.z })
   on_axis_lem Z v s = once_said (value_is line) (axes_is line) s.z (record { x = s.x; y = s.y; z = Some v })
@@ -41,10 +42,10 @@ module _ (line : List ℕ) where
   abbrev with_groups : Words Value → Groups → Words Value
   with_groups ws g = record { groups = g; axes = ws.axes; centres = ws.centres; feed = ws.feed; speed = ws.speed; tool = ws.tool; action = ws.action; area = ws.area }
 
-  abbrev with_axes : Words Value → Axes Value → Words Value
+  abbrev with_axes : Words Value → Each Value → Words Value
   with_axes ws a = record { groups = ws.groups; axes = a; centres = ws.centres; feed = ws.feed; speed = ws.speed; tool = ws.tool; action = ws.action; area = ws.area }
 
-  abbrev with_centres : Words Value → Axes Value → Words Value
+  abbrev with_centres : Words Value → Each Value → Words Value
   with_centres ws a = record { groups = ws.groups; axes = ws.axes; centres = a; feed = ws.feed; speed = ws.speed; tool = ws.tool; action = ws.action; area = ws.area }
 
   pub entered_said : (w : Word Value) (ws : Words Value) → entered (word_is line w) (words_is line ws) ≡ option_map (words_is line) (entered w ws)
@@ -57,29 +58,29 @@ module _ (line : List ℕ) where
   entered_said (Action v) ws = once_mapped (words_is line) ws.action _
   entered_said (Area on) ws = once_mapped (words_is line) ws.area _
 
-  free_said : (o : Option Value) → free (option_map (value_is line) o) ≡ free o
-  free_said None = refl
-  free_said (Some v) = refl
+  none_said : (o : Option Value) → is_none (option_map (value_is line) o) ≡ is_none o
+  none_said None = refl
+  none_said (Some v) = refl
 
-  no_axis_lem : (a : Axes Value) → no_axis (axes_is line a) ≡ no_axis a
-  no_axis_lem a = λ j. free_said a.x j && (free_said a.y j && free_said a.z j)
+  none_named_lem : (a : Each Value) → none_named (axes_is line a) ≡ none_named a
+  none_named_lem a = λ j. none_said a.x j && (none_said a.y j && none_said a.z j)
 
-  cond_mapped : (b : Bool) (a : Axes Value) → cond b (Some (axes_is line a)) None ≡ option_map (axes_is line) (cond b (Some a) None)
+  cond_mapped : (b : Bool) (a : Each Value) → cond b (Some (axes_is line a)) None ≡ option_map (axes_is line) (cond b (Some a) None)
   cond_mapped true a = refl
   cond_mapped false a = refl
 
-  pub only_axes_lem : (ws : Words Value) (o : Option (Axes Value)) → o ≡ only_axes ws → only_axes (words_is line ws) ≡ option_map (axes_is line) o
+  pub only_axes_lem : (ws : Words Value) (o : Option (Each Value)) → o ≡ only_axes ws → only_axes (words_is line ws) ≡ option_map (axes_is line) o
   only_axes_lem ws o e =
-      (λ j. cond ((no_modal ws.groups && no_flag ws.groups) && (no_axis_lem ws.centres j && (no_numbered ws && free ws.area))) (Some (axes_is line ws.axes)) None)
-      ∙ cond_mapped ((no_modal ws.groups && no_flag ws.groups) && (no_axis ws.centres && (no_numbered ws && free ws.area))) ws.axes
+      (λ j. cond ((no_modal ws.groups && no_flag ws.groups) && (none_named_lem ws.centres j && (no_numbered ws && is_none ws.area))) (Some (axes_is line ws.axes)) None)
+      ∙ cond_mapped ((no_modal ws.groups && no_flag ws.groups) && (none_named ws.centres && (no_numbered ws && is_none ws.area))) ws.axes
       ∙ ap (option_map (axes_is line)) (sym e)
 
-  some_by : (b : Bool) (a : Axes Value) → cond b None (Some (axes_is line a)) ≡ option_map (axes_is line) (cond b None (Some a))
+  some_by : (b : Bool) (a : Each Value) → cond b None (Some (axes_is line a)) ≡ option_map (axes_is line) (cond b None (Some a))
   some_by true a = refl
   some_by false a = refl
 
-  pub some_axis_lem : (a : Axes Value) (o : Option (Axes Value)) → o ≡ some_axis a → some_axis (axes_is line a) ≡ option_map (axes_is line) o
-  some_axis_lem a o e = ap (λ b. cond b None (Some (axes_is line a))) (no_axis_lem a) ∙ some_by (no_axis a) a ∙ ap (option_map (axes_is line)) (sym e)
+  pub some_axis_lem : (a : Each Value) (o : Option (Each Value)) → o ≡ some_axis a → some_axis (axes_is line a) ≡ option_map (axes_is line) o
+  some_axis_lem a o e = ap (λ b. cond b None (Some (axes_is line a))) (none_named_lem a) ∙ some_by (none_named a) a ∙ ap (option_map (axes_is line)) (sym e)
 
 -- One turn
 
@@ -88,18 +89,18 @@ unfolding words_from
 words_is_lem zero ws ts h = absurd (omega arith)
 words_is_lem (suc f) ws ts h = let p : f ≡ suc f - 1 = omega arith in ap (λ g. pick (is_end (first ts)) (λ u. Some ws) (λ u. beside (one_word (first u) (rest u)) ws (λ vs v. words_from g vs v)) ts) p
 
-module _ (line : List ℕ) (ws : Words Value) (p f : ℕ) (enough : 0 < f) where
-  by_end : (b : Bool) → b ≡ is_end (first (tokens line p)) → words_from f (words_is line ws) (tokens line p) ≡ pick b (λ u. Some (words_is line ws)) (λ u. beside (one_word (first u) (rest u)) (words_is line ws) (λ vs v. words_from (f - 1) vs v)) (tokens line p)
-  by_end b e = words_is_lem f (words_is line ws) (tokens line p) enough ∙ ap (λ b. pick b (λ u. Some (words_is line ws)) (λ u. beside (one_word (first u) (rest u)) (words_is line ws) (λ vs v. words_from (f - 1) vs v)) (tokens line p)) (sym e)
+module _ (line : List ℕ) (ws : Words Value) (c : Cursor) (inside : c.line.now ≡ line) (f : ℕ) (enough : 0 < f) where
+  by_end : (b : Bool) → b ≡ is_end (first (ahead c)) → words_from f (words_is line ws) (ahead c) ≡ pick b (λ u. Some (words_is line ws)) (λ u. beside (one_word (first u) (rest u)) (words_is line ws) (λ vs v. words_from (f - 1) vs v)) (ahead c)
+  by_end b e = words_is_lem f (words_is line ws) (ahead c) enough ∙ ap (λ b. pick b (λ u. Some (words_is line ws)) (λ u. beside (one_word (first u) (rest u)) (words_is line ws) (λ vs v. words_from (f - 1) vs v)) (ahead c)) (sym e)
 
-  pub at_the_end : true ≡ is_end (first (tokens line p)) → words_from f (words_is line ws) (tokens line p) ≡ Some (words_is line ws)
+  pub at_the_end : true ≡ is_end (first (ahead c)) → words_from f (words_is line ws) (ahead c) ≡ Some (words_is line ws)
   at_the_end e = by_end true e
 
-  pub no_word : false ≡ is_end (first (tokens line p)) → one_word (first (tokens line p)) (rest (tokens line p)) ≡ None → words_from f (words_is line ws) (tokens line p) ≡ None
+  pub no_word : false ≡ is_end (first (ahead c)) → one_word (first (ahead c)) (rest (ahead c)) ≡ None → words_from f (words_is line ws) (ahead c) ≡ None
   no_word e h = by_end false e ∙ ap (λ o. beside o (words_is line ws) (λ vs v. words_from (f - 1) vs v)) h
 
-  pub one_word_lem : (w : Word Value) (q : ℕ) (o : Option (Words Value)) → false ≡ is_end (first (tokens line p)) → one_word (first (tokens line p)) (rest (tokens line p)) ≡ Some (word_is line w, tokens line q) → o ≡ entered w ws → words_from f (words_is line ws) (tokens line p) ≡ (option_map (words_is line) o >>= (λ u. words_from (f - 1) u (tokens line q)))
-  one_word_lem w q o e h g =
+  pub one_word_lem : (w : Word Value) (d : Cursor) (o : Option (Words Value)) → false ≡ is_end (first (ahead c)) → one_word (first (ahead c)) (rest (ahead c)) ≡ Some (word_is c.line.now w, ahead d) → o ≡ entered w ws → words_from f (words_is line ws) (ahead c) ≡ (option_map (words_is line) o >>= (λ u. words_from (f - 1) u (ahead d)))
+  one_word_lem w d o e h g =
       by_end false e
-      ∙ ap (λ o. beside o (words_is line ws) (λ vs v. words_from (f - 1) vs v)) h
-      ∙ ap (λ o. o >>= (λ u. words_from (f - 1) u (tokens line q))) (entered_said line w ws ∙ ap (option_map (words_is line)) (sym g))
+      ∙ ap (λ o. beside o (words_is line ws) (λ vs v. words_from (f - 1) vs v)) (h ∙ ap (λ s. Some (word_is s w, ahead d)) inside)
+      ∙ ap (λ o. o >>= (λ u. words_from (f - 1) u (ahead d))) (entered_said line w ws ∙ ap (option_map (words_is line)) (sym g))

@@ -22,9 +22,9 @@ use Rattle.forms.specs.Kinds.{kind_of, command_of, function_of}
 use Rattle.sums.specs.Sums.{Sum, single, Reading, ◌>>=◌, pick, is_the, take_mark, sign_of, sum_of}
 use Rattle.forms.specs.Words.{no_words, entered, only_axes, some_axis}
 use Rattle.forms.specs.declared.kinds.Kind.{Kind}
-use Rattle.forms.specs.declared.kinds.Kind.TheVariants.{Axis as OfAxis, Centre as OfCentre, Feed as OfFeed, Speed as OfSpeed, Tool as OfTool, Action as OfAction, Function as OfFunction, Nothing as NoWord}
+use Rattle.forms.specs.declared.kinds.Kind.TheVariants.{Axis as OfAxis, Centre as OfCentre, Feed as OfFeed, Speed as OfSpeed, Tool as OfTool, Action as OfAction, Function as OfFunction}
 use Rattle.forms.specs.declared.kinds.Command.{Command}
-use Rattle.forms.specs.declared.kinds.Command.TheVariants.{Walimon, Walimof, Trans, Atrans, Gotof, Gotob, If, Repeat, Nothing}
+use Rattle.forms.specs.declared.kinds.Command.TheVariants.{Walimon, Walimof, Trans, Atrans, Gotof, Gotob, If, Repeat}
 use Rattle.forms.specs.declared.said.Comparison.{Comparison}
 use Rattle.forms.specs.declared.said.Comparison.TheVariants as by
 use Rattle.forms.specs.declared.said.Line.{Line}
@@ -107,10 +107,9 @@ word_of OfSpeed n = option_map (λ v. Speed v) (decimal_of n)
 word_of OfTool n = option_map (λ v. Tool v) (digits_of 4 n)
 word_of OfAction n = option_map (λ v. Action v) (digits_of 2 n)
 word_of OfFunction n = option_map (λ g. Function g) (function_of n)
-word_of NoWord n = None
 
 -- what the value of a letter alone makes a word
-abbrev pub alone : Kind → Option (Sum → Word Sum)
+abbrev pub alone : {V : Type 0} → Kind → Option (V → Word V)
 alone (OfAxis a) = Some (λ s. Axis a s)
 alone (OfCentre a) = Some (λ s. Centre a s)
 alone OfFeed = None
@@ -118,7 +117,6 @@ alone OfSpeed = None
 alone OfTool = None
 alone OfAction = None
 alone OfFunction = None
-alone NoWord = None
 
 abbrev pub spaced_of : Kind → Reading (Word Sum)
 spaced_of k ts = alone k >>= (λ f. option_map (λ s. (f s.0, s.1)) (signed_of ts))
@@ -132,12 +130,11 @@ area_of Gotof = None
 area_of Gotob = None
 area_of If = None
 area_of Repeat = None
-area_of Nothing = None
 
 abbrev pub one_word : Token → Reading (Word Sum)
-one_word (name b p c) ts = option_map (λ w. (w, ts)) (area_of (command_of b c))
-one_word (word l n) ts = option_map (λ w. (w, ts)) (word_of (kind_of l) n)
-one_word (letter l) ts = spaced_of (kind_of l) ts
+one_word (name b p c) ts = option_map (λ w. (w, ts)) (command_of b c >>= area_of)
+one_word (word l n) ts = option_map (λ w. (w, ts)) (kind_of l >>= (λ k. word_of k n))
+one_word (letter l) ts = kind_of l >>= (λ k. spaced_of k ts)
 one_word (number n) ts = None
 one_word (mark k) ts = None
 one_word bad ts = None
@@ -178,11 +175,10 @@ pause_by OfSpeed n = option_map (λ v. wait.Speed v) (decimal_of n)
 pause_by OfTool n = None
 pause_by OfAction n = None
 pause_by OfFunction n = None
-pause_by NoWord n = None
 
 abbrev pub pause_of : Token → Option Pause
 pause_of (name b p c) = None
-pause_of (word l n) = pause_by (kind_of l) n
+pause_of (word l n) = kind_of l >>= (λ k. pause_by k n)
 pause_of (letter l) = None
 pause_of (number n) = None
 pause_of (mark k) = None
@@ -236,10 +232,9 @@ direction Gotof = Some true
 direction Gotob = Some false
 direction If = None
 direction Repeat = None
-direction Nothing = None
 
 abbrev pub direction_from : Token → Option Bool
-direction_from (name b p c) = direction (command_of b c)
+direction_from (name b p c) = command_of b c >>= direction
 direction_from (word l n) = None
 direction_from (letter l) = None
 direction_from (number n) = None
@@ -304,10 +299,9 @@ command_line Gotof ts us = jump_line true None us
 command_line Gotob ts us = jump_line false None us
 command_line If ts us = if_line us
 command_line Repeat ts us = repeat_line us
-command_line Nothing ts us = None
 
 abbrev pub statement_by : Token → List Token → List Token → Says
-statement_by (name b p c) ts us = command_line (command_of b c) ts us
+statement_by (name b p c) ts us = command_of b c >>= (λ k. command_line k ts us)
 statement_by (word l n) ts us = cond (is_the R l) (assign_line n us) (cond (is_the G l) (function_line n ts us) (words_line ts))
 statement_by (letter l) ts us = words_line ts
 statement_by (number n) ts us = None

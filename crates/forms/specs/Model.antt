@@ -1,18 +1,19 @@
 -- What the readers of the code answer over the bytes of a line. Assumes nothing.
---     read_by f line r        what the tokens say where the code reads r: f of what it holds, and the tokens from its place on
---     Past line at r          r, if anything, comes to a place with fewer tokens from it on
+--     read_by f r             what the tokens say where the code reads r: f of what it holds, and the tokens from its cursor on
+--     Past c r                r, if anything, comes to a cursor in the line of c that has fewer tokens ahead
 --     axes_is, word_is, words_is, name_at, target_is, test_is, statement_is, line_is
 --                             what the code holds by places in a line, held whole
-use Rattle.std.specs.Prelude.{ℕ, ◌<◌, List, map, take, drop, Some, None, Option}
+use Rattle.std.specs.Prelude.{ℕ, List, map, take, drop, IfSome, Option}
 use Rattle.std.specs.Option.{option_map}
 use Rattle.std.specs.Char.{to_ascii_lowercase}
 use Rattle.lexer.specs.Tokens.{Token}
-use Rattle.lexer.specs.Model.{tokens, left}
+use Rattle.lexer.specs.Model.{ahead, Further}
+use Rattle.lexer.specs.declared.cursor.Cursor.{Cursor}
 use Rattle.sums.specs.Sums.{Sum}
 use Rattle.sums.specs.Model.{value_is}
 use Rattle.sums.specs.declared.value.Value.{Value}
 use Rattle.forms.specs.Forms.{Named}
-use Rattle.forms.specs.declared.said.Axes.{Axes}
+use Rattle.forms.specs.Words.{Each}
 use Rattle.forms.specs.declared.said.Line.{Line}
 use Rattle.forms.specs.declared.said.Place.{Place}
 use Rattle.forms.specs.declared.said.Statement.{Statement}
@@ -24,16 +25,15 @@ use Rattle.forms.specs.declared.said.Word.{Word}
 use Rattle.forms.specs.declared.said.Word.TheVariants.{Function, Axis, Centre, Feed, Speed, Tool, Action, Area}
 use Rattle.forms.specs.declared.said.Words.{Words}
 
-abbrev pub read_by : {A B : Type 0} → (B → A) → List ℕ → Option (B × ℕ) → Option (A × List Token)
-read_by f line r = option_map (λ y. (f y.0, tokens line y.1)) r
+abbrev pub read_by : {A B : Type 0} → (B → A) → Option (B × Cursor) → Option (A × List Token)
+read_by f r = option_map (λ y. (f y.0, ahead y.1)) r
 
-abbrev pub Past : {B : Type 0} → List ℕ → ℕ → Option (B × ℕ) → Type 0
-Past line at None = Unit {0}
-Past line at (Some y) = left line y.1 < left line at
+abbrev pub Past : {B : Type 0} → Cursor → Option (B × Cursor) → Type 0
+Past c r = IfSome r (λ y. Further c y.1)
 
 -- What the code holds by places
 
-abbrev pub axes_is : List ℕ → Axes Value → Axes Sum
+abbrev pub axes_is : List ℕ → Each Value → Each Sum
 axes_is line a = record { x = option_map (value_is line) a.x; y = option_map (value_is line) a.y; z = option_map (value_is line) a.z }
 
 abbrev pub word_is : List ℕ → Word Value → Word Sum

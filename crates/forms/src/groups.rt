@@ -2,7 +2,9 @@
 ghost use Rattle.std.specs.Prelude.{◌≡◌};
 ghost use Rattle.forms.specs.Groups.{with_g, no_modal, no_flag, no_group};
 
-use crate::said::Groups;
+use crate::modal::Modal;
+use crate::said::{Groups, Interpolation, Measure, Slot};
+use motions::axes::Plane;
 
 impl Groups {
     /// No function.
@@ -29,10 +31,10 @@ impl Groups {
     {
         let mut s = self;
         match g {
-            0..=3 if s.motion.is_none() => s.motion = Some(g),
-            17..=19 if s.plane.is_none() => s.plane = Some(g),
-            90..=91 if s.measure.is_none() => s.measure = Some(g),
-            54..=57 | 500 if s.zero.is_none() => s.zero = Some(g),
+            0..=3 if s.motion.is_none() => s.motion = Some(Interpolation::of(g)),
+            17..=19 if s.plane.is_none() => s.plane = Some(Plane::of(g)),
+            90..=91 if s.measure.is_none() => s.measure = Some(Measure::of(g)),
+            54..=57 | 500 if s.zero.is_none() => s.zero = Some(Slot::of(g)),
             53 if !s.g53 => s.g53 = true,
             40 if !s.g40 => s.g40 = true,
             60 if !s.g60 => s.g60 = true,

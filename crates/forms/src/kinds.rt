@@ -4,13 +4,14 @@ ghost use Rattle.std.specs.Char.{to_ascii_lowercase};
 ghost use Rattle.lexer.specs.Model.{num_is};
 ghost use Rattle.forms.specs.Kinds.{kind_of, command_of, function_of};
 
-use crate::said::{Axis, Groups};
+use crate::said::Groups;
 use lexer::number::Number;
 use lexer::symbols::Letter;
 use lexer::token::Name;
+use motions::axes::Axis;
 
 /// What kind of word a letter opens.
-#[derive(Clone, Copy)]
+#[derive(Clone, Copy, PartialEq, Eq)]
 pub(crate) enum Kind {
     Axis(Axis),
     Centre(Axis),
@@ -19,11 +20,10 @@ pub(crate) enum Kind {
     Tool,
     Action,
     Function,
-    Nothing,
 }
 
 /// The commands that are names.
-#[derive(Clone, Copy)]
+#[derive(Clone, Copy, PartialEq, Eq)]
 pub(crate) enum Command {
     Walimon,
     Walimof,
@@ -33,15 +33,14 @@ pub(crate) enum Command {
     Gotob,
     If,
     Repeat,
-    Nothing,
 }
 
 impl Kind {
-    /// The kind of word that a letter opens.
-    pub(crate) fn of(l: Letter) -> Kind
+    /// The kind of word that a letter opens, if it opens one.
+    pub(crate) fn of(l: Letter) -> Option<Kind>
         ensures value { result ≡ kind_of l }
     {
-        match l {
+        Some(match l {
             Letter::X => Kind::Axis(Axis::X),
             Letter::Y => Kind::Axis(Axis::Y),
             Letter::Z => Kind::Axis(Axis::Z),
@@ -53,45 +52,45 @@ impl Kind {
             Letter::T => Kind::Tool,
             Letter::M => Kind::Action,
             Letter::G => Kind::Function,
-            _ => Kind::Nothing,
-        }
+            _ => return None,
+        })
     }
 }
 
 impl Command {
     /// The command that a name is, if a blank or the end follows it.
-    pub(crate) fn of(n: Name<'_>) -> Command
+    pub(crate) fn of(n: Name<'_>) -> Option<Command>
         ensures value { result ≡ command_of (map to_ascii_lowercase n.entry.bytes.now) n.entry.closed }
     {
         if !n.closed {
-            return Command::Nothing;
+            return None;
         }
         let name = n.bytes;
         if name.eq_ignore_ascii_case(b"walimon") {
-            return Command::Walimon;
+            return Some(Command::Walimon);
         }
         if name.eq_ignore_ascii_case(b"walimof") {
-            return Command::Walimof;
+            return Some(Command::Walimof);
         }
         if name.eq_ignore_ascii_case(b"trans") {
-            return Command::Trans;
+            return Some(Command::Trans);
         }
         if name.eq_ignore_ascii_case(b"atrans") {
-            return Command::Atrans;
+            return Some(Command::Atrans);
         }
         if name.eq_ignore_ascii_case(b"gotof") {
-            return Command::Gotof;
+            return Some(Command::Gotof);
         }
         if name.eq_ignore_ascii_case(b"gotob") {
-            return Command::Gotob;
+            return Some(Command::Gotob);
         }
         if name.eq_ignore_ascii_case(b"if") {
-            return Command::If;
+            return Some(Command::If);
         }
         if name.eq_ignore_ascii_case(b"repeat") {
-            return Command::Repeat;
+            return Some(Command::Repeat);
         }
-        Command::Nothing
+        None
     }
 }
 
@@ -100,8 +99,6 @@ pub(crate) fn function(n: Number<'_>) -> Option<u32>
     ensures value { result ≡ function_of (num_is n.entry) }
 {
     let g = n.integer()?;
-    match Groups::none().with(g) {
-        Some(_) => Some(g),
-        None => None,
-    }
+    Groups::none().with(g)?;
+    Some(g)
 }

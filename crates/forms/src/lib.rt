@@ -4,6 +4,7 @@
 pub mod groups;
 mod kinds;
 pub mod line;
+pub mod modal;
 mod parts;
 pub mod said;
 mod statement;

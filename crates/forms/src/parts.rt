@@ -1,13 +1,13 @@
 //! The smaller parts that statements are made of: names, targets, comparisons and repetitions.
 ghost use Rattle.std.specs.Prelude.{◌≡◌};
-ghost use Rattle.lexer.specs.Model.{tokens, num_is};
+ghost use Rattle.lexer.specs.Model.{ahead, num_is};
 ghost use Rattle.forms.specs.Forms.{pause_by, name_of, after_n, target_of, direction, direction_of, mark_comparison, comparison_of, test_of, times_of};
-ghost use Rattle.forms.specs.Model.{read_by, name_at, target_is, test_is};
+ghost use Rattle.forms.specs.Model.{read_by, Past, name_at, target_is, test_is};
 
 use crate::kinds::{Command, Kind};
 use crate::said::{Comparison, Pause, Place, Target, Test};
+use lexer::cursor::Cursor;
 use lexer::number::Number;
-use lexer::scan::token;
 use lexer::symbols::{Letter, Mark};
 use lexer::token::Token;
 use sums::marks::{is_letter, take};
@@ -32,11 +32,12 @@ pub(crate) fn pause(kind: Kind, n: Number<'_>) -> Option<Pause>
     }
 }
 
-/// The name at a place, if it is short enough for a label, and the place after it.
-pub(crate) fn name(line: &[u8], at: usize) -> Option<(Place, usize)>
-    ensures value { name_of (tokens line.now at) ≡ read_by (name_at line.now) line.now result }
+/// The name at a cursor, if it is short enough for a label, and the cursor after it.
+pub(crate) fn name(c: Cursor<'_>) -> Option<(Place, Cursor<'_>)>
+    ensures value { name_of (ahead c.entry) ≡ read_by (name_at c.entry.line.now) result }
+    ensures past { Past c.entry result }
 {
-    let (t, next) = token(line, at);
+    let (t, next) = c.token();
     let Token::Name(n) = t else {
         return None;
     };
@@ -53,11 +54,12 @@ pub(crate) fn name(line: &[u8], at: usize) -> Option<(Place, usize)>
     ))
 }
 
-/// The number directly after N at a place, and the place after it.
-pub(crate) fn after_n(line: &[u8], at: usize) -> Option<(Number<'_>, usize)>
-    ensures value { after_n (tokens line.now at) ≡ read_by num_is line.now result }
+/// The number directly after N at a cursor, and the cursor after it.
+pub(crate) fn after_n(c: Cursor<'_>) -> Option<(Number<'_>, Cursor<'_>)>
+    ensures value { after_n (ahead c.entry) ≡ read_by num_is result }
+    ensures past { Past c.entry result }
 {
-    let (t, next) = token(line, at);
+    let (t, next) = c.token();
     let Token::Word(l, n) = t else {
         return None;
     };
@@ -69,96 +71,105 @@ pub(crate) fn after_n(line: &[u8], at: usize) -> Option<(Number<'_>, usize)>
 }
 
 /// The target of a jump: a label, or N and its digits.
-pub(crate) fn target(line: &[u8], at: usize) -> Option<(Target<Place>, usize)>
-    ensures value { target_of (tokens line.now at) ≡ read_by (target_is line.now) line.now result }
+pub(crate) fn target(c: Cursor<'_>) -> Option<(Target<Place>, Cursor<'_>)>
+    ensures value { target_of (ahead c.entry) ≡ read_by (target_is c.entry.line.now) result }
+    ensures past { Past c.entry result }
 {
-    match name(line, at) {
+    match name(c) {
         Some((p, next)) => Some((Target::Label(p), next)),
         None => {
-            let (n, next) = after_n(line, at)?;
+            let (n, next) = after_n(c)?;
             Some((Target::Number(n.digits(NUMBER_DIGITS)?), next))
         }
     }
 }
 
-/// Which way a jump command goes: true for forward.
-fn heading(command: Command) -> Option<bool>
-    ensures value { result ≡ direction command }
-{
-    match command {
-        Command::Gotof => Some(true),
-        Command::Gotob => Some(false),
-        _ => None,
+impl Command {
+    /// Which way a jump command goes: true for forward.
+    fn heading(self) -> Option<bool>
+        ensures value { result ≡ direction self }
+    {
+        match self {
+            Command::Gotof => Some(true),
+            Command::Gotob => Some(false),
+            _ => None,
+        }
     }
 }
 
-/// The jump command at a place, true for GOTOF, and the place after it.
-pub(crate) fn forward(line: &[u8], at: usize) -> Option<(bool, usize)>
-    ensures value { direction_of (tokens line.now at) ≡ read_by (λ d. d) line.now result }
+/// The jump command at a cursor, true for GOTOF, and the cursor after it.
+pub(crate) fn forward(c: Cursor<'_>) -> Option<(bool, Cursor<'_>)>
+    ensures value { direction_of (ahead c.entry) ≡ read_by (λ d. d) result }
+    ensures past { Past c.entry result }
 {
-    let (t, next) = token(line, at);
+    let (t, next) = c.token();
     let Token::Name(n) = t else {
         return None;
     };
-    Some((heading(Command::of(n))?, next))
+    Some((Command::of(n)?.heading()?, next))
 }
 
-/// The comparison that a mark is.
-fn compared(m: Mark) -> Option<Comparison>
-    ensures value { result ≡ mark_comparison m }
-{
-    match m {
-        Mark::Same => Some(Comparison::Same),
-        Mark::Differs => Some(Comparison::Differs),
-        Mark::Less => Some(Comparison::Less),
-        Mark::Greater => Some(Comparison::Greater),
-        Mark::AtMost => Some(Comparison::AtMost),
-        Mark::AtLeast => Some(Comparison::AtLeast),
-        _ => None,
+impl Comparison {
+    /// The comparison that a mark is, if it is one.
+    fn of(m: Mark) -> Option<Comparison>
+        ensures value { result ≡ mark_comparison m }
+    {
+        Some(match m {
+            Mark::Same => Comparison::Same,
+            Mark::Differs => Comparison::Differs,
+            Mark::Less => Comparison::Less,
+            Mark::Greater => Comparison::Greater,
+            Mark::AtMost => Comparison::AtMost,
+            Mark::AtLeast => Comparison::AtLeast,
+            _ => return None,
+        })
     }
 }
 
-/// The comparison at a place, and the place after it.
-fn comparison_at(line: &[u8], at: usize) -> Option<(Comparison, usize)>
-    ensures value { comparison_of (tokens line.now at) ≡ read_by (λ h. h) line.now result }
+/// The comparison at a cursor, and the cursor after it.
+fn comparison_at(c: Cursor<'_>) -> Option<(Comparison, Cursor<'_>)>
+    ensures value { comparison_of (ahead c.entry) ≡ read_by (λ h. h) result }
+    ensures past { Past c.entry result }
 {
-    let (t, next) = token(line, at);
+    let (t, next) = c.token();
     let Token::Mark(m) = t else {
         return None;
     };
-    Some((compared(m)?, next))
+    Some((Comparison::of(m)?, next))
 }
 
 /// Two sums and the comparison between them.
-pub(crate) fn test_at(line: &[u8], at: usize) -> Option<(Test<Value>, usize)>
-    ensures value { test_of (tokens line.now at) ≡ read_by (test_is line.now) line.now result }
+pub(crate) fn test_at(c: Cursor<'_>) -> Option<(Test<Value>, Cursor<'_>)>
+    ensures value { test_of (ahead c.entry) ≡ read_by (test_is c.entry.line.now) result }
+    ensures past { Past c.entry result }
 {
-    let middle = sum_end(line, at)?;
-    let (how, start) = comparison_at(line, middle)?;
-    let next = sum_end(line, start)?;
+    let middle = sum_end(c)?;
+    let (how, start) = comparison_at(middle)?;
+    let next = sum_end(start)?;
     Some((
         Test {
-            left: Value::Sum(at),
+            left: Value::Sum(c.at),
             how,
-            right: Value::Sum(start),
+            right: Value::Sum(start.at),
         },
         next,
     ))
 }
 
 /// P, an equals sign and how often a repeat runs.
-pub(crate) fn times(line: &[u8], at: usize) -> Option<(u32, usize)>
-    ensures value { times_of (tokens line.now at) ≡ read_by (λ v. v) line.now result }
+pub(crate) fn times(c: Cursor<'_>) -> Option<(u32, Cursor<'_>)>
+    ensures value { times_of (ahead c.entry) ≡ read_by (λ v. v) result }
+    ensures past { Past c.entry result }
 {
-    let (t, second) = token(line, at);
+    let (t, second) = c.token();
     let Token::Letter(l) = t else {
         return None;
     };
     if !is_letter(Letter::P, l) {
         return None;
     }
-    let third = take(line, second, Mark::Equals)?;
-    let (n, next) = token(line, third);
+    let third = take(second, Mark::Equals)?;
+    let (n, next) = third.token();
     let Token::Number(n) = n else {
         return None;
     };

@@ -1,24 +1,23 @@
 //! What a line says, as data. `V` is what the value of an axis is held as, and `N` what a name is held as:
 //! the code holds both by their places in the text, and the definitions hold them whole.
 
-/// A machine axis.
-#[derive(Clone, Copy)]
-pub enum Axis {
-    X,
-    Y,
-    Z,
-}
+use motions::axes::{Axes, Axis, Plane};
+use motions::row::Turn;
+
+/// A value for each axis that is named.
+pub type Named<V> = Axes<Option<V>>;
 
 /// A name's place in the text: where it begins, and how many bytes it has.
-#[derive(Clone, Copy)]
+#[derive(Clone, Copy, Drop, PartialEq, Eq)]
 pub struct Place {
     pub from: usize,
     pub length: usize,
 }
 
 /// One word of a line.
-#[derive(Clone, Copy)]
+#[derive(Clone, Copy, Drop, PartialEq, Eq)]
 pub enum Word<V> {
+    /// A G function by its number: `Groups::with` chooses its group, by ranges and guards.
     Function(u32),
     Axis(Axis, V),
     Centre(Axis, V),
@@ -30,13 +29,38 @@ pub enum Word<V> {
     Area(bool),
 }
 
+/// The way from start to end: G0, G1, and G2 or G3.
+#[derive(Clone, Copy, Drop, PartialEq, Eq)]
+pub enum Interpolation {
+    Rapid,
+    Line,
+    Arc(Turn),
+}
+
+/// G90 and G91: whether the value of an axis says where it goes or how far.
+#[derive(Clone, Copy, Drop, PartialEq, Eq)]
+pub enum Measure {
+    Absolute,
+    Incremental,
+}
+
+/// Which of the zero points counts; G500 is none.
+#[derive(Clone, Copy, Drop, PartialEq, Eq)]
+pub enum Slot {
+    G500,
+    G54,
+    G55,
+    G56,
+    G57,
+}
+
 /// The G functions of a line, at most one of each group.
-#[derive(Clone, Copy)]
+#[derive(Clone, Copy, Drop, PartialEq, Eq)]
 pub struct Groups {
-    pub motion: Option<u32>,
-    pub plane: Option<u32>,
-    pub measure: Option<u32>,
-    pub zero: Option<u32>,
+    pub motion: Option<Interpolation>,
+    pub plane: Option<Plane>,
+    pub measure: Option<Measure>,
+    pub zero: Option<Slot>,
     pub g53: bool,
     pub g40: bool,
     pub g60: bool,
@@ -45,20 +69,12 @@ pub struct Groups {
     pub g94: bool,
 }
 
-/// What belongs to each of the three axes, if anything does.
-#[derive(Clone, Copy)]
-pub struct Axes<V> {
-    pub x: Option<V>,
-    pub y: Option<V>,
-    pub z: Option<V>,
-}
-
 /// The words of a line, each address at most once.
-#[derive(Clone, Copy)]
+#[derive(Clone, Copy, Drop, PartialEq, Eq)]
 pub struct Words<V> {
     pub groups: Groups,
-    pub axes: Axes<V>,
-    pub centres: Axes<V>,
+    pub axes: Named<V>,
+    pub centres: Named<V>,
     pub feed: Option<u64>,
     pub speed: Option<u64>,
     pub tool: Option<u32>,
@@ -67,7 +83,7 @@ pub struct Words<V> {
 }
 
 /// How an IF compares its two sums.
-#[derive(Clone, Copy)]
+#[derive(Clone, Copy, Drop, PartialEq, Eq)]
 pub enum Comparison {
     Same,
     Differs,
@@ -78,7 +94,7 @@ pub enum Comparison {
 }
 
 /// The comparison after IF.
-#[derive(Clone, Copy)]
+#[derive(Clone, Copy, Drop, PartialEq, Eq)]
 pub struct Test<V> {
     pub left: V,
     pub how: Comparison,
@@ -86,34 +102,35 @@ pub struct Test<V> {
 }
 
 /// Where a jump goes: to a label, or to a line's N number.
-#[derive(Clone, Copy)]
+#[derive(Clone, Copy, Drop, PartialEq, Eq)]
 pub enum Target<N> {
     Label(N),
     Number(u32),
 }
 
 /// What G4 waits for: a time, or turns of the spindle.
-#[derive(Clone, Copy)]
+#[derive(Clone, Copy, Drop, PartialEq, Eq)]
 pub enum Pause {
     Feed(u64),
     Speed(u64),
 }
 
 /// What a line says after its number and its label.
-#[derive(Clone, Copy)]
+#[derive(Clone, Copy, Drop, PartialEq, Eq)]
 pub enum Statement<V, N> {
+    /// An empty statement: nothing stands there.
     Nothing,
     Words(Words<V>),
     /// G25 sets the lower limits, G26 the upper ones.
     Limits {
         upper: bool,
-        axes: Axes<V>,
+        axes: Named<V>,
     },
     Dwell(Pause),
     /// TRANS sets the shift, ATRANS adds to it.
     Shift {
         adds: bool,
-        axes: Axes<V>,
+        axes: Named<V>,
     },
     Assign {
         parameter: u32,
@@ -132,7 +149,7 @@ pub enum Statement<V, N> {
 }
 
 /// A line: its N number, its label, and what it says.
-#[derive(Clone, Copy)]
+#[derive(Clone, Copy, Drop, PartialEq, Eq)]
 pub struct Line<V, N> {
     pub number: Option<u32>,
     pub label: Option<N>,

@@ -1,61 +1,31 @@
 //! The words of a line, gathered one by one.
 ghost use Rattle.std.specs.Prelude.{◌≡◌};
-ghost use Rattle.forms.specs.Words.{no_axes, no_words, on_axis, entered, no_axis, no_numbered, only_axes, some_axis};
+ghost use Rattle.forms.specs.Words.{no_words, on_axis, entered, no_numbered, only_axes};
 
-use crate::said::{Axes, Axis, Groups, Word, Words};
-use sums::value::Value;
+use crate::said::{Groups, Named, Word, Words};
+use motions::axes::{Axes, Axis};
 
-impl Axes<Value> {
-    /// No axis has anything.
-    fn none() -> Axes<Value>
-        ensures value { result ≡ no_axes }
-    {
-        Axes {
-            x: None,
-            y: None,
-            z: None,
-        }
-    }
-
-    /// These and a value for one axis, if it has none yet.
-    fn with(self, axis: Axis, v: Value) -> Option<Axes<Value>>
-        ensures value { result ≡ on_axis axis v self }
-    {
-        let mut a = self;
-        match axis {
-            Axis::X if a.x.is_none() => a.x = Some(v),
-            Axis::Y if a.y.is_none() => a.y = Some(v),
-            Axis::Z if a.z.is_none() => a.z = Some(v),
-            _ => return None,
-        }
-        Some(a)
-    }
-
-    /// Whether no axis has anything.
-    fn is_empty(self) -> bool
-        ensures value { result ≡ no_axis self }
-    {
-        self.x.is_none() && self.y.is_none() && self.z.is_none()
-    }
-
-    /// These, if at least one axis has something.
-    pub(crate) fn some(self) -> Option<Axes<Value>>
-        ensures value { result ≡ some_axis self }
-    {
-        if self.is_empty() { None } else { Some(self) }
+/// These and a value for one axis, if it has none yet.
+fn named<V: Copy>(axes: Named<V>, axis: Axis, value: V) -> Option<Named<V>>
+    ensures value { result ≡ on_axis axis value axes }
+{
+    if axes.along(axis).is_none() {
+        Some(axes.with(axis, Some(value)))
+    } else {
+        None
     }
 }
 
-impl Words<Value> {
+impl<V: Copy> Words<V> {
     /// No word.
-    pub(crate) fn none() -> Words<Value>
+    pub(crate) fn none() -> Words<V>
         ensures value { result ≡ no_words }
     {
         let groups = Groups::none();
         Words {
             groups,
-            axes: Axes::none(),
-            centres: Axes::none(),
+            axes: Axes::alike(None),
+            centres: Axes::alike(None),
             feed: None,
             speed: None,
             tool: None,
@@ -65,14 +35,14 @@ impl Words<Value> {
     }
 
     /// These and one word more, if nothing has its address or its group yet.
-    pub fn with(self, w: Word<Value>) -> Option<Words<Value>>
+    pub fn with(self, w: Word<V>) -> Option<Words<V>>
         ensures value { result ≡ entered w self }
     {
         let mut s = self;
         match w {
             Word::Function(g) => s.groups = s.groups.with(g)?,
-            Word::Axis(a, v) => s.axes = s.axes.with(a, v)?,
-            Word::Centre(a, v) => s.centres = s.centres.with(a, v)?,
+            Word::Axis(a, v) => s.axes = named(s.axes, a, v)?,
+            Word::Centre(a, v) => s.centres = named(s.centres, a, v)?,
             Word::Feed(v) if s.feed.is_none() => s.feed = Some(v),
             Word::Speed(v) if s.speed.is_none() => s.speed = Some(v),
             Word::Tool(v) if s.tool.is_none() => s.tool = Some(v),
@@ -91,7 +61,7 @@ impl Words<Value> {
     }
 
     /// The axis words, if there are no others.
-    pub(crate) fn only_axes(self) -> Option<Axes<Value>>
+    pub(crate) fn only_axes(self) -> Option<Named<V>>
         ensures value { result ≡ only_axes self }
     {
         let g_free = self.groups.no_modal() && self.groups.no_flag();

@@ -3,18 +3,22 @@
 --     Token              a name has its bytes with capitals made small, its place, and whether a blank or the end
 --                        follows; a word is a letter with a number directly after it; `end` stands after the last token
 --     num_of s           the number that s begins with
+--     mark_length m      how many bytes the mark m has
+--     opened o i s       the token that s begins with, where o opens, and its length. i is the place of s
 --     token_at i s       the token that s begins with, and its length; None at a blank. i is the place of s
 --     tokens_from k i s  the tokens of s, whose place is i, after k bytes that are passed over
 --     tokens_of i line   the tokens of a line whose place is i
 --     first ts, rest ts  the next token, and the tokens after it
-use Rattle.std.specs.Prelude.{ℕ, zero, suc, ◌+◌, ◌-◌, Bool, true, false, ◌&&◌, List, [], ◌∷◌, map, length, take, drop, Some, None, Option, ◌==◌, slice_index, slice_index_or}
+use Rattle.std.specs.Prelude.{ℕ, zero, suc, ◌+◌, ◌-◌, Bool, true, false, cond, ◌&&◌, List, [], ◌∷◌, map, length, take, drop, Some, None, Option, ◌==◌, slice_index, slice_index_or}
 use Rattle.std.specs.Char.{to_ascii_lowercase}
 use Rattle.lexer.specs.Digits.{is_digit}
-use Rattle.lexer.specs.Bytes.{is_blank, in_name, letter_of, opens, run, code}
+use Rattle.std.specs.List.{prefix_len}
+use Rattle.lexer.specs.Bytes.{is_blank, in_name, letter_of, opens, code}
 use Rattle.lexer.specs.declared.symbols.Letter.{Letter}
 use Rattle.lexer.specs.declared.symbols.Mark.{Mark}
+use Rattle.lexer.specs.declared.symbols.Mark.TheVariants.{Plus, Minus, Equals, Opening, Closing, Colon, Same, Differs, Less, Greater, AtMost, AtLeast}
 use Rattle.lexer.specs.declared.symbols.Opens.{Opens}
-use Rattle.lexer.specs.declared.symbols.Opens.TheVariants.{Blank, Name as AName, Word as AWord, Letter as ALetter, Number as ANumber, Mark as AMark, Nothing}
+use Rattle.lexer.specs.declared.symbols.Opens.TheVariants.{Name as AName, Word as AWord, Letter as ALetter, Number as ANumber, Mark as AMark}
 
 pub record Num : Type 0 where
   pub whole : List ℕ
@@ -34,12 +38,12 @@ abbrev pub pointed : List ℕ → Bool
 pointed s = slice_index s 0 == 46 && is_digit (slice_index s 1)
 
 abbrev pub part_of : Bool → List ℕ → Option (List ℕ)
-part_of true s = Some (take (run is_digit (drop 1 s)) (drop 1 s))
+part_of true s = Some (take (prefix_len is_digit (drop 1 s)) (drop 1 s))
 part_of false s = None
 
 abbrev pub num_of : List ℕ → Num
 num_of s =
-    let n = run is_digit s in
+    let n = prefix_len is_digit s in
     record { whole = take n s; part = part_of (pointed (drop n s)) (drop n s) }
 
 abbrev pub part_length : Option (List ℕ) → ℕ
@@ -51,20 +55,33 @@ num_length n = length n.whole + part_length n.part
 
 abbrev pub name_of : ℕ → List ℕ → Token
 name_of i s =
-    let n = run in_name s in
+    let n = prefix_len in_name s in
     name (map to_ascii_lowercase (take n s)) i (is_blank (slice_index_or s n 32))
 
-abbrev pub opened : Opens → ℕ → List ℕ → Option (Token × ℕ)
-opened Blank i s = None
-opened AName i s = Some (name_of i s, run in_name s)
-opened AWord i s = Some (word (letter_of (to_ascii_lowercase (slice_index s 0))) (num_of (drop 1 s)), 1 + num_length (num_of (drop 1 s)))
-opened ALetter i s = Some (letter (letter_of (to_ascii_lowercase (slice_index s 0))), 1)
-opened ANumber i s = Some (number (num_of s), num_length (num_of s))
-opened (AMark m n) i s = Some (mark m, n)
-opened Nothing i s = Some (bad, 1)
+abbrev pub mark_length : Mark → ℕ
+mark_length Plus = 1
+mark_length Minus = 1
+mark_length Equals = 1
+mark_length Opening = 1
+mark_length Closing = 1
+mark_length Colon = 1
+mark_length Same = 2
+mark_length Differs = 2
+mark_length Less = 1
+mark_length Greater = 1
+mark_length AtMost = 2
+mark_length AtLeast = 2
+
+abbrev pub opened : Option Opens → ℕ → List ℕ → Token × ℕ
+opened (Some AName) i s = (name_of i s, prefix_len in_name s)
+opened (Some AWord) i s = (word (letter_of (to_ascii_lowercase (slice_index s 0))) (num_of (drop 1 s)), 1 + num_length (num_of (drop 1 s)))
+opened (Some ALetter) i s = (letter (letter_of (to_ascii_lowercase (slice_index s 0))), 1)
+opened (Some ANumber) i s = (number (num_of s), num_length (num_of s))
+opened (Some (AMark m)) i s = (mark m, mark_length m)
+opened None i s = (bad, 1)
 
 abbrev pub token_at : ℕ → List ℕ → Option (Token × ℕ)
-token_at i s = opened (opens (slice_index s 0) (slice_index s 1)) i s
+token_at i s = cond (is_blank (slice_index s 0)) None (Some (opened (opens (slice_index s 0) (slice_index s 1)) i s))
 
 -- the token, and the tokens after the rest of its bytes
 abbrev pub followed : Option (Token × ℕ) → (ℕ → List Token) → List Token

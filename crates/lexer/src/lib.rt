@@ -3,8 +3,7 @@
 
 mod bytes;
 pub mod code;
+pub mod cursor;
 pub mod number;
-mod runs;
-pub mod scan;
 pub mod symbols;
 pub mod token;

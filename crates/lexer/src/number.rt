@@ -1,7 +1,10 @@
 //! A number as it stands in a line, and what it stands for.
-ghost use Rattle.std.specs.Prelude.{◌≡◌, ◌+◌, ◌-◌, ◌*◌, ◌^◌, ◌<◌, ◌≤◌, min, length};
+ghost use Rattle.std.specs.Prelude.{◌≡◌, ◌+◌, ◌-◌, ◌*◌, ◌^◌, ◌≤◌, min, length, take};
+ghost use Rattle.std.specs.List.{prefix_len};
+ghost use Rattle.lexer.specs.Digits.{is_digit};
+ghost use Rattle.lexer.specs.Tokens.{pointed, part_of, num_of, num_length};
 ghost use Rattle.lexer.specs.Numbers.{value_of, digits_of, integer_of, decimal_of};
-ghost use Rattle.lexer.specs.Model.{num_is, Capped};
+ghost use Rattle.lexer.specs.Model.{part_is, num_is, Capped};
 
 /// The digits before a number's point and, where it has one, those after it.
 #[derive(Clone, Copy)]
@@ -17,66 +20,67 @@ const PART_DIGITS: usize = 3;
 /// What a number of any length is cut to: more than any that a form takes.
 const CAP: u32 = 10_000;
 
-/// What a byte counts for as a digit.
-fn digit(b: u8) -> u8
-    ensures value { result ≡ b - 48 }
+/// The digits that stand first.
+fn digits(s: &[u8]) -> &[u8]
+    ensures value { result.now ≡ take (prefix_len is_digit s.entry.now) s.entry.now }
 {
-    b.saturating_sub(b'0')
+    let n = s.iter().take_while(|b| b.is_ascii_digit()).count();
+    &s[..n]
 }
 
-/// What a run of few digits stands for.
+/// The digits after a point that stands first, where there are any.
+fn part(s: &[u8]) -> Option<&[u8]>
+    ensures value { part_is result ≡ part_of (pointed s.entry.now) s.entry.now }
+{
+    match s {
+        [b'.', d, ..] if d.is_ascii_digit() => Some(digits(&s[1..])),
+        _ => None,
+    }
+}
+
+/// What a run of digits stands for, and the most that an answer can be where it stands for more.
 fn value(s: &[u8]) -> u32
-    requires { length s.now ≤ 7 }
-    ensures value { result ≡ value_of s.now }
+    ensures value { result ≡ min (value_of s.now) 4294967295 }
     ensures bound { result + 23 ≤ 23 * 10 ^ length s.now }
 {
     let mut v: u32 = 0;
     for b in s {
-        v = v * 10 + digit(*b) as u32;
+        v = v
+            .saturating_mul(10)
+            .saturating_add(u32::from(b.saturating_sub(b'0')));
     }
     v
 }
 
-/// What a run of digits stands for, cut to the cap.
-fn capped(s: &[u8]) -> u32
-    ensures value { result ≡ min (value_of s.now) 10000 }
-{
-    let mut v: u32 = 0;
-    for b in s {
-        v = (v * 10 + digit(*b) as u32).min(CAP);
+impl<'t> Number<'t> {
+    /// The number that stands first.
+    pub(crate) fn first(s: &'t [u8]) -> Number<'t>
+        ensures value { num_is result ≡ num_of s.entry.now }
+    {
+        let whole = digits(s);
+        Number {
+            whole,
+            part: part(&s[whole.len()..]),
+        }
     }
-    v
-}
 
-/// What the last of so many digits after the point counts for, in thousandths.
-fn scale(count: usize) -> u64
-    requires { count ≤ 3 }
-    ensures value { result ≡ 10 ^ (3 - count) }
-{
-    match count {
-        0 => 1000,
-        1 => 100,
-        2 => 10,
-        _ => 1,
+    /// How many bytes the number has.
+    pub(crate) fn length(self) -> usize
+        ensures value { result ≡ num_length (num_is self.entry) }
+    {
+        self.whole.len() + self.part.map_or(0, |p| p.len() + 1)
     }
-}
 
-impl Number<'_> {
     /// The number in thousandths, if it has few enough digits before and after its point.
     pub fn thousandths(self) -> Option<u64>
         ensures value { result ≡ decimal_of (num_is self.entry) }
     {
-        if self.whole.len() > WHOLE_DIGITS {
+        let part = self.part.unwrap_or(&[]);
+        if self.whole.len() > WHOLE_DIGITS || part.len() > PART_DIGITS {
             return None;
         }
-        let whole = value(self.whole) as u64;
-        let Some(part) = self.part else {
-            return Some(whole * 1000);
-        };
-        if part.len() > PART_DIGITS {
-            return None;
-        }
-        Some(whole * 1000 + value(part) as u64 * scale(part.len()))
+        let scale = 10u64.pow((PART_DIGITS - part.len()) as u32);
+        Some(u64::from(value(self.whole)) * 1000 + u64::from(value(part)) * scale)
     }
 
     /// The number, if it has no point and at most so many digits, and never more than may stand before a point.
@@ -96,6 +100,6 @@ impl Number<'_> {
         if self.part.is_some() {
             return None;
         }
-        Some(capped(self.whole))
+        Some(value(self.whole).min(CAP))
     }
 }

@@ -10,7 +10,8 @@ pub struct Name<'t> {
     pub closed: bool,
 }
 
-/// A token, as long as it can be.
+/// A token, as long as it can be. A form asks for the end of a line, or meets a byte that it can't take, as it does any
+/// other token, so these two are tokens, and no `Option` round one.
 #[derive(Clone, Copy)]
 pub enum Token<'t> {
     Name(Name<'t>),

@@ -1,6 +1,7 @@
 //! The canonical form of what a line says after its number and its label.
 use crate::pieces::Listing;
-use forms::said::{Axes, Comparison, Groups, Pause, Place, Statement, Target, Test, Words};
+use forms::modal::Modal;
+use forms::said::{Comparison, Groups, Named, Pause, Place, Statement, Target, Test, Words};
 use std::io;
 use sums::value::Value;
 
@@ -81,13 +82,20 @@ fn words(listing: &mut Listing<'_>, words: Words<Value>) -> io::Result<()> {
     Ok(())
 }
 
+/// The G function of a group, if one stands there.
+fn function<M: Modal>(listing: &mut Listing<'_>, stands: Option<M>) -> io::Result<()> {
+    match stands {
+        Some(function) => listing.number('G', function.number()),
+        None => Ok(()),
+    }
+}
+
 /// G functions, in the order of their groups.
 fn functions(listing: &mut Listing<'_>, groups: Groups) -> io::Result<()> {
-    for function in [groups.motion, groups.plane, groups.measure, groups.zero] {
-        if let Some(g) = function {
-            listing.number('G', g)?;
-        }
-    }
+    function(listing, groups.motion)?;
+    function(listing, groups.plane)?;
+    function(listing, groups.measure)?;
+    function(listing, groups.zero)?;
     let rest = [
         (groups.g53, 53),
         (groups.g40, 40),
@@ -104,7 +112,7 @@ fn functions(listing: &mut Listing<'_>, groups: Groups) -> io::Result<()> {
     Ok(())
 }
 
-fn axis_words(listing: &mut Listing<'_>, axes: Axes<Value>) -> io::Result<()> {
+fn axis_words(listing: &mut Listing<'_>, axes: Named<Value>) -> io::Result<()> {
     for (letter, value) in [('X', axes.x), ('Y', axes.y), ('Z', axes.z)] {
         if let Some(value) = value {
             listing.value(letter, value)?;
@@ -113,7 +121,7 @@ fn axis_words(listing: &mut Listing<'_>, axes: Axes<Value>) -> io::Result<()> {
     Ok(())
 }
 
-fn centre_words(listing: &mut Listing<'_>, centres: Axes<Value>) -> io::Result<()> {
+fn centre_words(listing: &mut Listing<'_>, centres: Named<Value>) -> io::Result<()> {
     for (letter, value) in [('I', centres.x), ('J', centres.y), ('K', centres.z)] {
         if let Some(value) = value {
             listing.value(letter, value)?;

@@ -1,3 +1,2 @@
 mod Judging
-mod Narrow
 mod Stacked

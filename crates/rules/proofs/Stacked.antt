@@ -11,17 +11,11 @@ below rows k (suc n) y h =
     let ne : n ≢ k = (λ e. omega arith) in
     λ i. get_or-set_other rows k n y no_repeat ne i ∷ below rows k n y (omega arith) i
 
+pub replaced : (rows : List Repeat) (k : ℕ) (y : Repeat) → k < length rows → stacked (set rows k y) (suc k) ≡ y ∷ stacked rows k
+replaced rows k y h i = get_or-set_same rows k y no_repeat h i ∷ below rows k k y (omega arith) i
+
 pub pushed : (rows : List Repeat) (n : ℕ) (y : Repeat) → n < length rows → stacked (set rows n y) (n + 1) ≡ y ∷ stacked rows n
-pushed rows n y h =
-    ap (stacked (set rows n y)) (add-one n) ∙ (λ i. get_or-set_same rows n y no_repeat h i ∷ below rows n n y (omega arith) i)
-
-pub top : (rows : List Repeat) (n : ℕ) → 0 < n → stacked rows n ≡ get_or rows (n - 1) no_repeat ∷ stacked rows (n - 1)
-top rows zero h = absurd (omega arith)
-top rows (suc n) h = let e : n ≡ suc n - 1 = omega arith in ap (λ k. get_or rows k no_repeat ∷ stacked rows k) e
-
-pub replaced : (rows : List Repeat) (n : ℕ) (y : Repeat) → 0 < n → n - 1 < length rows → stacked (set rows (n - 1) y) n ≡ y ∷ stacked rows (n - 1)
-replaced rows n y h l =
-    top (set rows (n - 1) y) n h ∙ (λ i. get_or-set_same rows (n - 1) y no_repeat l i ∷ below rows (n - 1) (n - 1) y (omega arith) i)
+pushed rows n y h = ap (stacked (set rows n y)) (add-one n) ∙ replaced rows n y h
 
 pub deep : (rows : List Repeat) (n : ℕ) → length (stacked rows n) ≡ n
 deep rows zero = refl

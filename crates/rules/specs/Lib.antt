@@ -4,4 +4,3 @@ pub mod State
 pub mod Moves
 pub mod Steps
 pub mod Model
-pub mod Sources

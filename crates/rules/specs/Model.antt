@@ -1,15 +1,18 @@
 -- What the values of the code stand for. Assumes nothing.
+--     in_reach b z       the number z, where it lies from -b to b
 --     each_in_reach t    the three of t, where each is a coordinate in range
 --     centre_in_reach, kind_in_reach, row_in_reach  the same of a centre, of the centre of an arc, of the end and the centre of a row
 --     Judged wrong m r   r is what is answered to the row m, misplaced words or not: its motion, or its fault
 --     open_of o          the open repeats, the last one opened first
 --     last_of os, before_last os   the last one opened, and the others
+--     with_last r os     os with r in the place of the last one opened
 --     Opened r os after b     opening r turned the open repeats os into `after` and answered b
 --     setup_is u, made_is m, state_of s  what a setup, a motion made and the state of a run stand for
+--     line_after g n     the line at which a run goes on that goes g from line n
+--     came_to n s r      what line n came to that left the state s, itself still due, and answered r
 --     event_of s r       what a line came to that left the state s and answered r
 --     state_in r, left_in r, event_in r a  where a run stands, how many more lines may run, and what a line came to that it answered a
 --     Counted r t a      a line that was not refused counts as run; a refused one leaves the run as it was
---     refused_at s r     the answer that refuses the line due in s
 --     Unchanged s t r    where r is a refusal, the state t stands for what s stood for before it
 use Rattle.std.specs.Prelude.{◌≡◌, ℕ, zero, suc, ◌+◌, ◌<◌, Bool, true, false, cond, ◌&&◌, List, [], ◌∷◌, length, ℤ, Some, None, Ok, Err, Option, Result, slice_index_or}
 use Rattle.std.specs.Option.{option_map}
@@ -26,6 +29,9 @@ use Rattle.geometry.specs.Model.{limits_of}
 use Rattle.motions.specs.Model.{home_of}
 use Rattle.motions.specs.declared.refusal.Refusal.{Refusal}
 use Rattle.rules.specs.declared.open.OpenRepeats.{OpenRepeats}
+use Rattle.rules.specs.declared.run.Done.{Done}
+use Rattle.rules.specs.declared.run.Goes.{Goes}
+use Rattle.rules.specs.declared.run.Goes.TheVariants.{On, To}
 use Rattle.rules.specs.declared.run.Made.{Made}
 use Rattle.rules.specs.declared.run.Run.{Run}
 use Rattle.rules.specs.declared.run.RunState.{RunState}
@@ -38,6 +44,9 @@ use Rattle.rules.specs.Steps.{most_repeats}
 
 abbrev pub no_repeat : Repeat
 no_repeat = record { line = 0; left = 0 }
+
+abbrev pub in_reach : ℕ → ℤ → Option ℤ
+in_reach b z = cond (within b z) (Some z) None
 
 abbrev pub each_in_reach : Axes ℤ → Option (Axes ℤ)
 each_in_reach t = cond (each_within position_range t) (Some t) None
@@ -71,10 +80,14 @@ abbrev pub before_last : {A : Type 0} → List A → List A
 before_last [] = []
 before_last (o ∷ os) = os
 
+abbrev pub with_last : {A : Type 0} → A → List A → List A
+with_last r [] = []
+with_last r (o ∷ os) = r ∷ os
+
 -- one more is open where there was room; else none
-abbrev pub Opened : Repeat → List Repeat → List Repeat → Bool → Type 0
-Opened r os after true = (length os < most_repeats) × (after ≡ r ∷ os)
-Opened r os after false = length os ≡ most_repeats
+abbrev pub Opened : {U E : Type 0} → Repeat → List Repeat → List Repeat → Result U E → Type 0
+Opened r os after (Ok u) = (length os < most_repeats) × (after ≡ r ∷ os)
+Opened r os after (Err e) = length os ≡ most_repeats
 
 abbrev pub setup_is : Setup → rules.Setup
 setup_is u = record { limits = limits_of u.limits; zeros = u.zeros; at = home_of u.at }
@@ -92,14 +105,19 @@ state_of s = record {
   made = s.made;
 }
 
+abbrev pub line_after : Goes → ℕ → ℕ
+line_after On n = n + 1
+line_after (To k) n = k
+
+abbrev pub came_to : ℕ → RunState → Result Done Refusal → rules.Event
+came_to n s (Ok d) = after d.step.ended (option_map made_is d.step.made) (rules.due_at (line_after d.goes n) (state_of s))
+came_to n s (Err e) = rules.refused e
+
 abbrev pub event_of : RunState → Result Step Refusal → rules.Event
 event_of s (Ok d) = after d.ended (option_map made_is d.made) (state_of s)
 event_of s (Err e) = rules.refused e
 
-abbrev pub refused_at : RunState → Reason → Result Step Refusal
-refused_at s r = Err (record { reason = r; line = s.due; motion = 0 })
-
-abbrev pub Unchanged : RunState → RunState → Result Step Refusal → Type 0
+abbrev pub Unchanged : {A : Type 0} → RunState → RunState → Result A Refusal → Type 0
 Unchanged s t (Ok d) = Unit {0}
 Unchanged s t (Err e) = state_of t ≡ state_of s
 

@@ -1,10 +1,10 @@
 -- What a line of words does. Assumes nothing.
---     interpolation_of g, plane_of g, measure_of g, slot_of g  what a G function of its group stands for
 --     in_force ws fs     the functions fs, with those that the line sets
 --     framed ws f        the zero and shift record f, with the zero point that the line chooses
 --     counted ws f       what counts of it in the line: nothing where G53 stands
 --     goal_of m from zero shift o   where an axis goes from `from` whose value is o
 --     end_of fs f z at v  where the line's motion ends
+--     centre_along a at c   the coordinate of an arc's centre along the axis a: the start's, and what I, J or K adds to it
 --     centre_of l at c   the centre of an arc in the plane l: the start, and the plane's two of I, J and K
 --     row_from fs f z at ws   the numbers of the line's motion from the position `at`, the functions fs being in force and f counting
 --     row_of ws s         the same, its functions being in force in s
@@ -16,53 +16,40 @@ use Rattle.std.specs.Prelude.{ℕ, ◌+◌, Bool, true, false, cond, not, ◌||�
 use Rattle.std.specs.Option.{option_map, unwrap_or}
 use Rattle.algebra.specs.declared.vector.Vector.{Vector}
 use Rattle.motions.specs.declared.axes.Axes.{Axes}
+use Rattle.motions.specs.declared.axes.Axis.{Axis}
 use Rattle.motions.specs.declared.axes.Plane.{Plane}
-use Rattle.motions.specs.declared.axes.Plane.TheVariants.{XY, ZX, YZ}
 use Rattle.motions.specs.declared.refusal.Reason.{Reason}
 use Rattle.motions.specs.declared.refusal.Reason.TheVariants.{MotionRange, ArcRule, MotionsMade}
 use Rattle.motions.specs.declared.row.PathKind.{PathKind}
 use Rattle.motions.specs.declared.row.PathKind.TheVariants as path
 use Rattle.motions.specs.declared.row.Row.{Row}
-use Rattle.motions.specs.declared.row.Turn.TheVariants.{Counterclockwise, Clockwise}
-use Rattle.motions.specs.Axes.{coordinate, u_axis, v_axis, w_axis}
+use Rattle.motions.specs.Axes.{coordinate, none_named, u_axis, v_axis, w_axis}
 use Rattle.motions.specs.Motions.{row_in_range, keeps_arc_rule}
 use Rattle.forms.specs.declared.said.Words.{Words}
 use Rattle.rules.specs.declared.state.Frame.{Frame}
 use Rattle.rules.specs.declared.state.Functions.{Functions}
-use Rattle.rules.specs.declared.state.Interpolation.{Interpolation}
-use Rattle.rules.specs.declared.state.Interpolation.TheVariants.{Rapid, Line, Arc}
-use Rattle.rules.specs.declared.state.Measure.{Measure}
-use Rattle.rules.specs.declared.state.Measure.TheVariants.{Absolute, Incremental}
-use Rattle.rules.specs.declared.state.Slot.{Slot}
-use Rattle.rules.specs.declared.state.Slot.TheVariants.{G500, G54, G55, G56, G57}
+use Rattle.forms.specs.declared.said.Interpolation.{Interpolation}
+use Rattle.forms.specs.declared.said.Interpolation.TheVariants.{Rapid, Line, Arc}
+use Rattle.forms.specs.declared.said.Measure.{Measure}
+use Rattle.forms.specs.declared.said.Measure.TheVariants.{Absolute, Incremental}
+use Rattle.forms.specs.declared.said.Slot.{Slot}
+use Rattle.forms.specs.declared.said.Slot.TheVariants.{G500, G54, G55, G56, G57}
 use Rattle.rules.specs.declared.state.Zeros.{Zeros}
-use Rattle.rules.specs.Values.{Each, by_axis}
+use Rattle.rules.specs.Values.{Each}
 use Rattle.rules.specs.State.{State, Made, Event, goes, ends, origin, no_frame, refuse_motion, with_modal, due_at, moved_to}
 
 -- ---- the functions of a line
 
-abbrev pub interpolation_of : ℕ → Interpolation
-interpolation_of g = cond (g == 0) Rapid (cond (g == 1) Line (cond (g == 2) (Arc Clockwise) (Arc Counterclockwise)))
-
-abbrev pub plane_of : ℕ → Plane
-plane_of g = cond (g == 17) XY (cond (g == 18) ZX YZ)
-
-abbrev pub measure_of : ℕ → Measure
-measure_of g = cond (g == 91) Incremental Absolute
-
-abbrev pub slot_of : ℕ → Slot
-slot_of g = cond (g == 54) G54 (cond (g == 55) G55 (cond (g == 56) G56 (cond (g == 57) G57 G500)))
-
 abbrev pub in_force : {V : Type 0} → Words V → Functions → Functions
 in_force ws fs = record {
-  interpolation = unwrap_or (option_map interpolation_of ws.groups.motion) fs.interpolation;
-  plane = unwrap_or (option_map plane_of ws.groups.plane) fs.plane;
-  measure = unwrap_or (option_map measure_of ws.groups.measure) fs.measure;
+  interpolation = unwrap_or ws.groups.motion fs.interpolation;
+  plane = unwrap_or ws.groups.plane fs.plane;
+  measure = unwrap_or ws.groups.measure fs.measure;
   watched = unwrap_or ws.area fs.watched;
 }
 
 abbrev pub framed : {V : Type 0} → Words V → Frame → Frame
-framed ws f = record { slot = unwrap_or (option_map slot_of ws.groups.zero) f.slot; shift = f.shift }
+framed ws f = record { slot = unwrap_or ws.groups.zero f.slot; shift = f.shift }
 
 abbrev pub counted : {V : Type 0} → Words V → Frame → Frame
 counted ws f = cond ws.groups.g53 no_frame f
@@ -88,11 +75,11 @@ end_of m f z at v = record {
   z = goal_of m at.z (zero_of z f.slot).z f.shift.z v.z;
 }
 
+abbrev pub centre_along : Axis → Axes ℤ → Each ℤ → ℤ
+centre_along a at c = coordinate a at +ℤ unwrap_or (coordinate a c) (pos 0)
+
 abbrev pub centre_of : Plane → Axes ℤ → Each ℤ → Vector
-centre_of l at c = record {
-  u = coordinate (u_axis l) at +ℤ unwrap_or (coordinate (u_axis l) (by_axis c)) (pos 0);
-  v = coordinate (v_axis l) at +ℤ unwrap_or (coordinate (v_axis l) (by_axis c)) (pos 0);
-}
+centre_of l at c = record { u = centre_along (u_axis l) at c; v = centre_along (v_axis l) at c }
 
 abbrev pub kind_of : Interpolation → Plane → Axes ℤ → Each ℤ → PathKind
 kind_of Rapid l at c = path.Rapid
@@ -108,12 +95,12 @@ row_of ws s = row_from s.modal.functions (counted ws s.modal.frame) s.zeros s.at
 -- ---- whether it may
 
 abbrev pub any_named : {V : Type 0} → Each V → Bool
-any_named a = is_some a.x || (is_some a.y || is_some a.z)
+any_named a = not (none_named a)
 
 abbrev pub misplaced : Interpolation → Plane → Each ℤ → Bool
 misplaced Rapid l c = any_named c
 misplaced Line l c = any_named c
-misplaced (Arc t) l c = is_some (coordinate (w_axis l) (by_axis c))
+misplaced (Arc t) l c = is_some (coordinate (w_axis l) c)
 
 abbrev pub fault_by : Bool → Row → Option Reason
 fault_by wrong m = cond (row_in_range m) (cond (wrong || not (keeps_arc_rule m)) (Some ArcRule) None) (Some MotionRange)

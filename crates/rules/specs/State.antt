@@ -17,10 +17,10 @@ use Rattle.motions.specs.declared.refusal.Refusal.{Refusal}
 use Rattle.motions.specs.declared.row.Row.{Row}
 use Rattle.rules.specs.declared.state.Frame.{Frame}
 use Rattle.rules.specs.declared.state.Functions.{Functions}
-use Rattle.rules.specs.declared.state.Interpolation.TheVariants.{Line}
-use Rattle.rules.specs.declared.state.Measure.TheVariants.{Absolute}
+use Rattle.forms.specs.declared.said.Interpolation.TheVariants.{Line}
+use Rattle.forms.specs.declared.said.Measure.TheVariants.{Absolute}
 use Rattle.rules.specs.declared.state.Repeat.{Repeat}
-use Rattle.rules.specs.declared.state.Slot.TheVariants.{G500}
+use Rattle.forms.specs.declared.said.Slot.TheVariants.{G500}
 use Rattle.rules.specs.declared.state.Zeros.{Zeros}
 
 pub record Setup : Type 0 where

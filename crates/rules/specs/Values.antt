@@ -1,6 +1,5 @@
 -- What the sums of a line are worth. Assumes nothing.
 --     Each V             a V for each axis that is named
---     by_axis a          what a has for each of the machine's axes
 --     value ps s         what the sum s is worth where ps are the R parameters; None where a partial result is beyond its range
 --     optional f o       f of what may be missing: no failure where it is missing
 --     each f a           f of each that is named; None where it fails at one
@@ -8,8 +7,7 @@
 --     named g st         the statement st with g of each of its names
 use Rattle.std.specs.Prelude.{List, ℤ, pos, Some, None, Option}
 use Rattle.sums.specs.Sums.{Sum, total, ◌>>=◌}
-use Rattle.forms.specs.declared.said.Axes.{Axes}
-use Rattle.motions.specs.declared.axes.Axes as machine
+use Rattle.motions.specs.declared.axes.Axes.{Axes}
 use Rattle.forms.specs.declared.said.Statement.{Statement}
 use Rattle.forms.specs.declared.said.Statement.TheVariants as say
 use Rattle.forms.specs.declared.said.Target.{Target}
@@ -18,10 +16,7 @@ use Rattle.forms.specs.declared.said.Test.{Test}
 use Rattle.forms.specs.declared.said.Words.{Words}
 
 abbrev pub Each : Type 0 → Type 0
-Each V = Axes V
-
-abbrev pub by_axis : {V : Type 0} → Each V → machine.Axes (Option V)
-by_axis a = record { x = a.x; y = a.y; z = a.z }
+Each V = Axes (Option V)
 
 abbrev pub value : List ℤ → Sum → Option ℤ
 value ps s = total ps (Some (pos 0)) s

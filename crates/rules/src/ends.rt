@@ -1,19 +1,22 @@
 //! Where the motion of a line ends.
-ghost use Rattle.std.specs.Prelude.{◌≡◌, ◌+ℤ◌};
-ghost use Rattle.motions.specs.Ranges.{within as is_within};
+ghost use Rattle.std.specs.Prelude.{◌≡◌, ◌<◌, ◌^◌};
+ghost use Rattle.motions.specs.Axes.{coordinate};
+ghost use Rattle.motions.specs.Ranges.{position_range};
 ghost use Rattle.rules.specs.Moves.{zero_of, goal_of, end_of};
-ghost use Rattle.rules.specs.Model.{each_in_reach};
+ghost use Rattle.rules.specs.Model.{each_in_reach, in_reach as within_reach};
 
+use crate::paths::Standing;
 use crate::state::{Frame, Measure, Named, Slot, Zeros};
-use motions::axes::{Axes, Position};
-use motions::ranges::POSITION_RANGE;
+use motions::axes::{Axes, Axis, Position};
+use motions::ranges::{POSITION_RANGE, Ranged};
+use sums::amount::Amount;
 
 /// The zero point that counts.
 fn zero(zeros: &Zeros, slot: Slot) -> Axes<i32>
     ensures value { result ≡ zero_of zeros.now slot }
 {
     match slot {
-        Slot::G500 => Axes { x: 0, y: 0, z: 0 },
+        Slot::G500 => Axes::alike(0),
         Slot::G54 => zeros.g54,
         Slot::G55 => zeros.g55,
         Slot::G56 => zeros.g56,
@@ -21,62 +24,47 @@ fn zero(zeros: &Zeros, slot: Slot) -> Axes<i32>
     }
 }
 
-/// What is added to the value of an axis under G90.
-fn offset(zero: i32, shift: i64) -> i128
-    ensures value { result ≡ zero +ℤ shift }
-{
-    zero as i128 + shift as i128
-}
-
 /// Where one axis goes, in range or not.
-fn goal(measure: Measure, from: i32, zero: i32, shift: i64, value: Option<i64>) -> i128
+fn goal(measure: Measure, from: i32, zero: i32, shift: Amount, value: Option<Amount>) -> i64
     ensures value { result ≡ goal_of measure from zero shift value }
 {
-    match value {
-        None => from as i128,
-        Some(v) => match measure {
-            Measure::Absolute => v as i128 + offset(zero, shift),
-            Measure::Incremental => from as i128 + v as i128,
-        },
+    match (value, measure) {
+        (None, _) => i64::from(from),
+        (Some(v), Measure::Absolute) => i64::from(v) + (i64::from(zero) + i64::from(shift)),
+        (Some(v), Measure::Incremental) => i64::from(from) + i64::from(v),
     }
 }
 
-/// Whether a number lies from -bound to bound.
-pub(crate) fn within(bound: u32, z: i128) -> bool
-    ensures value { result ≡ is_within bound z }
+/// A number, if it lies from -bound to bound.
+pub(crate) fn in_reach(bound: u32, number: i64) -> Option<i32>
+    ensures value { bound < 2 ^ 31 → result ≡ within_reach bound number }
 {
-    let bound = bound as i128;
-    -bound <= z && z <= bound
+    i32::try_from(number).ok().filter(|near| near.within(bound))
 }
 
-/// The position with three coordinates, if they are in range.
-fn reached(x: i128, y: i128, z: i128) -> Option<Position>
-    ensures value { result ≡ each_in_reach (record { x = x; y = y; z = z }) }
-{
-    if within(POSITION_RANGE, x) && within(POSITION_RANGE, y) && within(POSITION_RANGE, z) {
-        Some(Axes {
-            x: x as i32,
-            y: y as i32,
-            z: z as i32,
-        })
-    } else {
-        None
+impl Standing<'_> {
+    /// Where one axis goes, if it stays in range.
+    fn reach(&self, axis: Axis, frame: &Frame, values: &Named<Amount>) -> Option<i32>
+        ensures value { result ≡ within_reach position_range (coordinate axis (end_of self.now.functions.now.measure frame.now self.now.zeros.now self.now.at values.now)) }
+    {
+        let zero = zero(self.zeros, frame.slot);
+        let goal = goal(
+            self.functions.measure,
+            self.at.along(axis),
+            zero.along(axis),
+            frame.shift.along(axis),
+            values.along(axis),
+        );
+        in_reach(POSITION_RANGE, goal)
     }
-}
 
-/// Where the motion of a line ends, if each axis stays in range.
-pub(crate) fn end_of(
-    measure: Measure,
-    frame: &Frame,
-    zeros: &Zeros,
-    at: Position,
-    values: &Named<i64>,
-) -> Option<Position>
-    ensures value { result ≡ each_in_reach (end_of measure frame.now zeros.now at values.now) }
-{
-    let zero = zero(zeros, frame.slot);
-    let x = goal(measure, at.x, zero.x, frame.shift.x, values.x);
-    let y = goal(measure, at.y, zero.y, frame.shift.y, values.y);
-    let z = goal(measure, at.z, zero.z, frame.shift.z, values.z);
-    reached(x, y, z)
+    /// Where the motion of a line ends, if each axis stays in range.
+    pub(crate) fn end(&self, frame: &Frame, values: &Named<Amount>) -> Option<Position>
+        ensures value { result ≡ each_in_reach (end_of self.now.functions.now.measure frame.now self.now.zeros.now self.now.at values.now) }
+    {
+        let x = self.reach(Axis::X, frame, values)?;
+        let y = self.reach(Axis::Y, frame, values)?;
+        let z = self.reach(Axis::Z, frame, values)?;
+        Some(Axes { x, y, z })
+    }
 }

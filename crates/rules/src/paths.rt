@@ -1,140 +1,130 @@
 //! The motion that a line of words makes.
-ghost use Rattle.std.specs.Prelude.{◌≡◌, pos, ◌+ℤ◌};
-ghost use Rattle.std.specs.Option.{unwrap_or};
-ghost use Rattle.motions.specs.Axes.{coordinate};
-ghost use Rattle.rules.specs.Values.{by_axis};
-ghost use Rattle.rules.specs.Moves.{centre_of, kind_of, misplaced as misplaced_by, row_from, framed as framed_by, counted};
+ghost use Rattle.std.specs.Prelude.{◌≡◌};
+ghost use Rattle.motions.specs.Ranges.{centre_range};
+ghost use Rattle.rules.specs.Moves.{centre_along as centre_along_is, centre_of, kind_of, misplaced as misplaced_by, row_from, framed as framed_by, counted};
 ghost use Rattle.rules.specs.State.{no_frame};
-ghost use Rattle.rules.specs.Model.{centre_in_reach, kind_in_reach, row_in_reach, Judged};
+ghost use Rattle.rules.specs.Model.{in_reach as within_reach, centre_in_reach, kind_in_reach, row_in_reach, Judged};
 
-use crate::ends::{end_of, within};
-use crate::functions::{any, framed};
+use crate::ends::in_reach;
+use crate::functions::framed;
 use crate::state::{Frame, Functions, Interpolation, Named, Zeros};
 use algebra::vector::Vector;
 use forms::said::Words;
-use motions::axes::{Axis, Plane, Position};
+use motions::axes::{Axis, Position};
 use motions::motion::Motion;
 use motions::ranges::CENTRE_RANGE;
 use motions::refusal::Reason;
 use motions::row::{Arc, PathKind, Row};
+use sums::amount::Amount;
 
-/// A coordinate of the start, and what I, J or K adds to it.
-fn from_start(at: i32, step: Option<i64>) -> i128
-    ensures value { result ≡ at +ℤ unwrap_or step (pos 0) }
-{
-    match step {
-        Some(step) => at as i128 + step as i128,
-        None => at as i128,
+/// What a line's motion is made from beside its words and the zero and shift record.
+#[derive(Clone, Copy, Drop)]
+pub(crate) struct Standing<'a> {
+    /// The functions in force.
+    pub(crate) functions: &'a Functions,
+    /// The zero points.
+    pub(crate) zeros: &'a Zeros,
+    /// Where the tool stands.
+    pub(crate) at: Position,
+}
+
+impl Standing<'_> {
+    /// One coordinate of an arc's centre, the start's and what I, J or K adds to it, if it is in range.
+    fn centre_along(&self, axis: Axis, centres: &Named<Amount>) -> Option<i32>
+        ensures value { result ≡ within_reach centre_range (centre_along_is axis self.now.at centres.now) }
+    {
+        let step = centres.along(axis).map_or(0, i64::from);
+        in_reach(CENTRE_RANGE, i64::from(self.at.along(axis)) + step)
     }
-}
 
-/// What I, J or K says of an axis, if it stands in the line.
-fn of_axis(centres: &Named<i64>, axis: Axis) -> Option<i64>
-    ensures value { result ≡ coordinate axis (by_axis centres.now) }
-{
-    match axis {
-        Axis::X => centres.x,
-        Axis::Y => centres.y,
-        Axis::Z => centres.z,
+    /// The centre of an arc, if it is in range.
+    fn centre(&self, centres: &Named<Amount>) -> Option<Vector>
+        ensures value { result ≡ centre_in_reach (centre_of self.now.functions.now.plane self.now.at centres.now) }
+    {
+        let plane = self.functions.plane;
+        let u = self.centre_along(plane.u(), centres)?;
+        let v = self.centre_along(plane.v(), centres)?;
+        Some(Vector { u, v })
     }
-}
 
-/// The centre with two coordinates, if they are in range.
-fn in_reach(u: i128, v: i128) -> Option<Vector>
-    ensures value { result ≡ centre_in_reach (record { u = u; v = v }) }
-{
-    if within(CENTRE_RANGE, u) && within(CENTRE_RANGE, v) {
-        Some(Vector {
-            u: u as i32,
-            v: v as i32,
-        })
-    } else {
-        None
-    }
-}
-
-/// The centre of an arc, if it is in range.
-fn centre(plane: Plane, at: &Position, centres: &Named<i64>) -> Option<Vector>
-    ensures value { result ≡ centre_in_reach (centre_of plane at.now centres.now) }
-{
-    let u = from_start(at.along(plane.u()), of_axis(centres, plane.u()));
-    let v = from_start(at.along(plane.v()), of_axis(centres, plane.v()));
-    in_reach(u, v)
-}
-
-/// How the line gets from its start to its end, if the centre of an arc is in range.
-fn kind(functions: &Functions, at: &Position, centres: &Named<i64>) -> Option<PathKind>
-    ensures value { result ≡ kind_in_reach (kind_of functions.now.interpolation functions.now.plane at.now centres.now) }
-{
-    match functions.interpolation {
-        Interpolation::Rapid => Some(PathKind::Rapid),
-        Interpolation::Line => Some(PathKind::Line),
-        Interpolation::Arc(turn) => {
-            let plane = functions.plane;
-            let centre = centre(plane, at, centres)?;
-            Some(PathKind::Arc(Arc {
-                plane,
-                turn,
-                centre,
-            }))
+    /// How the line gets from its start to its end, if the centre of an arc is in range.
+    fn kind(&self, centres: &Named<Amount>) -> Option<PathKind>
+        ensures value { result ≡ kind_in_reach (kind_of self.now.functions.now.interpolation self.now.functions.now.plane self.now.at centres.now) }
+    {
+        match self.functions.interpolation {
+            Interpolation::Rapid => Some(PathKind::Rapid),
+            Interpolation::Line => Some(PathKind::Line),
+            Interpolation::Arc(turn) => {
+                let centre = self.centre(centres)?;
+                Some(PathKind::Arc(Arc {
+                    plane: self.functions.plane,
+                    turn,
+                    centre,
+                }))
+            }
         }
     }
-}
 
-/// Whether I, J or K stands where none belongs.
-fn misplaced(functions: &Functions, centres: &Named<i64>) -> bool
-    ensures value { result ≡ misplaced_by functions.now.interpolation functions.now.plane centres.now }
-{
-    match functions.interpolation {
-        Interpolation::Rapid | Interpolation::Line => any(centres),
-        Interpolation::Arc(_) => of_axis(centres, functions.plane.w()).is_some(),
+    /// Whether I, J or K stands where none belongs.
+    fn misplaced(&self, centres: &Named<Amount>) -> bool
+        ensures value { result ≡ misplaced_by self.now.functions.now.interpolation self.now.functions.now.plane centres.now }
+    {
+        match self.functions.interpolation {
+            Interpolation::Rapid | Interpolation::Line => !centres.is_empty(),
+            Interpolation::Arc(_) => centres.along(self.functions.plane.w()).is_some(),
+        }
     }
-}
 
-/// The numbers of the line's motion, if its end and centre are in range.
-fn row(
-    functions: &Functions,
-    frame: &Frame,
-    zeros: &Zeros,
-    at: Position,
-    words: &Words<i64>,
-) -> Option<Row>
-    ensures value { result ≡ row_in_reach (row_from functions.now frame.now zeros.now at words.now) }
-{
-    let Some(end) = end_of(functions.measure, frame, zeros, at, &words.axes) else {
-        return None;
-    };
-    let Some(kind) = kind(functions, &at, &words.centres) else {
-        return None;
-    };
-    Some(Row {
-        kind,
-        start: at,
-        end,
-    })
-}
-
-/// The line's motion from a position, or why it makes none.
-fn motion(
-    functions: &Functions,
-    frame: &Frame,
-    zeros: &Zeros,
-    at: Position,
-    words: &Words<i64>,
-) -> Result<Motion, Reason>
-    ensures value { Judged (misplaced_by functions.now.interpolation functions.now.plane words.now.centres) (row_from functions.now frame.now zeros.now at words.now) result }
-{
-    let Some(row) = row(functions, frame, zeros, at, words) else {
-        return Err(Reason::MotionRange);
-    };
-    let motion = match Motion::from_row(&row) {
-        Err(reason) => return Err(reason),
-        Ok(motion) => motion,
-    };
-    if misplaced(functions, &words.centres) {
-        return Err(Reason::ArcRule);
+    /// The numbers of the line's motion, if its end and centre are in range.
+    fn row(&self, frame: &Frame, words: &Words<Amount>) -> Option<Row>
+        ensures value { result ≡ row_in_reach (row_from self.now.functions.now frame.now self.now.zeros.now self.now.at words.now) }
+    {
+        let end = self.end(frame, &words.axes)?;
+        let kind = self.kind(&words.centres)?;
+        Some(Row {
+            kind,
+            start: self.at,
+            end,
+        })
     }
-    Ok(motion)
+
+    /// The line's motion from where the tool stands, or why it makes none.
+    fn motion(&self, frame: &Frame, words: &Words<Amount>) -> Result<Motion, Reason>
+        ensures value { Judged (misplaced_by self.now.functions.now.interpolation self.now.functions.now.plane words.now.centres) (row_from self.now.functions.now frame.now self.now.zeros.now self.now.at words.now) result }
+    {
+        let row = self.row(frame, words).ok_or(Reason::MotionRange)?;
+        let motion = Motion::from_row(&row)?;
+        if self.misplaced(&words.centres) {
+            return Err(Reason::ArcRule);
+        }
+        Ok(motion)
+    }
+
+    /// The motion of a line with G53: zero and shift count as 0, and stand again after it.
+    fn bare_motion(&self, frame: &mut Frame, words: &Words<Amount>) -> Result<Motion, Reason>
+        ensures value { Judged (misplaced_by self.now.functions.now.interpolation self.now.functions.now.plane words.now.centres) (row_from self.now.functions.now no_frame self.now.zeros.now self.now.at words.now) result }
+        ensures stands { frame.new ≡ frame.old }
+    {
+        let saved = *frame;
+        let guard = Zeroed { held: frame, saved };
+        *guard.held = Frame::NONE;
+        self.motion(guard.held, words)
+    }
+
+    /// The motion of a line whose functions are in force, or why it makes none; the zero and shift record stands after it.
+    pub(crate) fn line_motion(
+        &self,
+        frame: &mut Frame,
+        words: &Words<Amount>,
+    ) -> Result<Motion, Reason>
+        ensures value { Judged (misplaced_by self.now.functions.now.interpolation self.now.functions.now.plane words.now.centres) (row_from self.now.functions.now (counted words.now (framed_by words.now frame.old)) self.now.zeros.now self.now.at words.now) result }
+        ensures stands { frame.new ≡ frame.old }
+    {
+        if words.groups.g53 {
+            return self.bare_motion(frame, words);
+        }
+        self.motion(&framed(words, *frame), words)
+    }
 }
 
 /// Counts zero and shift as 0 for as long as it lives, and then puts back what stood there.
@@ -150,39 +140,4 @@ impl Drop for Zeroed<'_> {
         *self.held = self.saved;
         let Zeroed { held: _, saved: _ } = self;
     }
-}
-
-/// The motion of a line with G53: zero and shift count as 0, and stand again after it.
-fn bare_motion(
-    functions: &Functions,
-    frame: &mut Frame,
-    zeros: &Zeros,
-    at: Position,
-    words: &Words<i64>,
-) -> Result<Motion, Reason>
-    ensures value { Judged (misplaced_by functions.now.interpolation functions.now.plane words.now.centres) (row_from functions.now no_frame zeros.now at words.now) result }
-    ensures stands { frame.new ≡ frame.old }
-{
-    let saved = *frame;
-    let guard = Zeroed { held: frame, saved };
-    *guard.held = Frame::NONE;
-    motion(functions, guard.held, zeros, at, words)
-}
-
-/// The motion of a line whose functions are in force, or why it makes none; the zero and shift record stands after it.
-pub(crate) fn line_motion(
-    functions: &Functions,
-    frame: &mut Frame,
-    zeros: &Zeros,
-    at: Position,
-    words: &Words<i64>,
-) -> Result<Motion, Reason>
-    ensures value { Judged (misplaced_by functions.now.interpolation functions.now.plane words.now.centres) (row_from functions.now (counted words.now (framed_by words.now frame.old)) zeros.now at words.now) result }
-    ensures stands { frame.new ≡ frame.old }
-{
-    if words.groups.g53 {
-        return bare_motion(functions, frame, zeros, at, words);
-    }
-    let frame = framed(words, *frame);
-    motion(functions, &frame, zeros, at, words)
 }

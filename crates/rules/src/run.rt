@@ -13,6 +13,9 @@ mod acting;
 mod performing;
 mod stepping;
 
+/// How many motions a run makes at most.
+pub const MOST_MOTIONS: usize = 1000;
+
 /// What a run starts from: the panel's limits and zero points, and the position.
 #[derive(Clone, Copy, Drop)]
 pub struct Setup {
@@ -35,6 +38,22 @@ pub struct Made {
 pub struct Step {
     pub made: Option<Made>,
     pub ended: bool,
+}
+
+/// Where a run goes on.
+#[derive(Clone, Copy, Drop, PartialEq, Eq)]
+pub(crate) enum Goes {
+    /// At the next line.
+    On,
+    /// At the line with a number.
+    To(usize),
+}
+
+/// What a line did: what it came to, and where the run goes on.
+#[derive(Clone, Copy, Drop)]
+pub(crate) struct Done {
+    step: Step,
+    goes: Goes,
 }
 
 /// Where a run stands: the line that is due, what holds until it is set again, and what was made.

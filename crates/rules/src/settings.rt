@@ -4,31 +4,26 @@ ghost use Rattle.std.specs.Option.{option_map};
 ghost use Rattle.geometry.specs.Model.{limits_of};
 ghost use Rattle.rules.specs.Steps.{limit_on, new_limits, added as added_to, shifted as shifted_by};
 
-use crate::ends::within;
+use crate::ends::in_reach;
 use crate::state::Named;
 use geometry::limit_box::LimitBox;
 use motions::axes::{Axes, Axis};
 use motions::ranges::POSITION_RANGE;
-use sums::parameters::LARGEST;
+use sums::amount::Amount;
 
 /// The area with the limit of one axis, if the line names it; nothing where it is out of range.
-fn limited(area: LimitBox, upper: bool, axis: Axis, value: Option<i64>) -> Option<LimitBox>
+fn limited(area: LimitBox, upper: bool, axis: Axis, value: Option<Amount>) -> Option<LimitBox>
     ensures value { option_map limits_of result ≡ limit_on upper axis value (limits_of area) }
 {
     let Some(v) = value else {
         return Some(area);
     };
-    if !within(POSITION_RANGE, v as i128) {
-        return None;
-    }
-    match area.with(upper, axis, Some(v as i32)) {
-        Ok(area) => Some(area),
-        Err(_) => None,
-    }
+    let limit = in_reach(POSITION_RANGE, i64::from(v))?;
+    area.with(upper, axis, Some(limit)).ok()
 }
 
 /// The area with the limits that the line names on one side; nothing where one is out of range.
-pub(crate) fn new_limits(area: LimitBox, upper: bool, values: &Named<i64>) -> Option<LimitBox>
+pub(crate) fn new_limits(area: LimitBox, upper: bool, values: &Named<Amount>) -> Option<LimitBox>
     ensures value { option_map limits_of result ≡ new_limits upper values.now (limits_of area) }
 {
     let area = limited(area, upper, Axis::X, values.x)?;
@@ -37,23 +32,17 @@ pub(crate) fn new_limits(area: LimitBox, upper: bool, values: &Named<i64>) -> Op
 }
 
 /// One axis of a shift, and what the line adds to it; nothing where it is then out of range.
-fn added(old: i64, value: Option<i64>) -> Option<i64>
+fn added(old: Amount, value: Option<Amount>) -> Option<Amount>
     ensures value { result ≡ added_to old value }
 {
-    let Some(v) = value else {
-        return Some(old);
-    };
-    let sum = old as i128 + v as i128;
-    let largest = LARGEST as i128;
-    if -largest <= sum && sum <= largest {
-        Some(sum as i64)
-    } else {
-        None
+    match value {
+        None => Some(old),
+        Some(v) => old.checked_add(v),
     }
 }
 
 /// A shift, and what the line adds to it; nothing where it is then out of range.
-pub(crate) fn shifted(old: Axes<i64>, values: &Named<i64>) -> Option<Axes<i64>>
+pub(crate) fn shifted(old: Axes<Amount>, values: &Named<Amount>) -> Option<Axes<Amount>>
     ensures value { result ≡ shifted_by old values.now }
 {
     let x = added(old.x, values.x)?;

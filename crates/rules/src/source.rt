@@ -7,9 +7,9 @@ ghost use Rattle.rules.specs.Values.{value, valued, named, named_target};
 ghost use Rattle.forms.specs.Numbered.{numbered};
 ghost use Rattle.rules.specs.Targets.{Said, target as target_is};
 ghost use Rattle.rules.specs.Steps.{says_of};
-ghost use Rattle.rules.specs.Sources.{AssignsInRange};
 
 use forms::said::{Place, Statement, Target};
+use sums::amount::Amount;
 use sums::parameters::Parameters;
 
 /// A part program that was read, with names held by their places.
@@ -25,9 +25,8 @@ pub trait Source {
         ensures few { result ≤ 2000 };
 
     /// What a line says, with the value of each of its sums; nothing where one of them is beyond its range.
-    fn says(&self, number: usize, params: &Parameters) -> Option<Statement<i64, Place>>
-        ensures value { option_map (named (Self.names self.now)) result ≡ valued (value params.now.values) (says_of (numbered (Self.lines self.now) number)) }
-        ensures ranged { AssignsInRange result };
+    fn says(&self, number: usize, params: &Parameters) -> Option<Statement<Amount, Place>>
+        ensures value { option_map (named (Self.names self.now)) result ≡ valued (value params.now.values) (says_of (numbered (Self.lines self.now) number)) };
 
     /// The line that a target means, seen from a line.
     fn find(&self, forward: bool, target: Target<Place>, from: usize) -> Option<usize>

@@ -1,37 +1,10 @@
 //! What holds in a run until it is set again: plain data.
+pub use forms::said::{Interpolation, Measure, Named, Slot};
 use motions::axes::{Axes, Plane};
-use motions::row::Turn;
-
-/// A value for each axis that is named.
-pub type Named<V> = forms::said::Axes<V>;
-
-/// The way from start to end: G0, G1, and G2 or G3.
-#[derive(Clone, Copy, Drop)]
-pub enum Interpolation {
-    Rapid,
-    Line,
-    Arc(Turn),
-}
-
-/// G90 and G91: whether the value of an axis says where it goes or how far.
-#[derive(Clone, Copy, Drop)]
-pub enum Measure {
-    Absolute,
-    Incremental,
-}
-
-/// Which of the zero points counts; G500 is none.
-#[derive(Clone, Copy, Drop)]
-pub enum Slot {
-    G500,
-    G54,
-    G55,
-    G56,
-    G57,
-}
+use sums::amount::Amount;
 
 /// The functions in force; `watched` is whether the working area is on.
-#[derive(Clone, Copy, Drop)]
+#[derive(Clone, Copy, Drop, PartialEq, Eq)]
 pub struct Functions {
     pub interpolation: Interpolation,
     pub plane: Plane,
@@ -40,22 +13,26 @@ pub struct Functions {
 }
 
 /// The zero and shift record: what is added to a value under G90.
-#[derive(Clone, Copy, Drop)]
+#[derive(Clone, Copy, Drop, PartialEq, Eq)]
 pub struct Frame {
     pub slot: Slot,
-    pub shift: Axes<i64>,
+    pub shift: Axes<Amount>,
 }
 
 impl Frame {
     /// No zero and no shift.
     pub const NONE: Frame = Frame {
         slot: Slot::G500,
-        shift: Axes { x: 0, y: 0, z: 0 },
+        shift: Axes {
+            x: Amount::ZERO,
+            y: Amount::ZERO,
+            z: Amount::ZERO,
+        },
     };
 }
 
 /// The zero points of the four slots, in whole micrometres.
-#[derive(Clone, Copy, Drop)]
+#[derive(Clone, Copy, Drop, PartialEq, Eq)]
 pub struct Zeros {
     pub g54: Axes<i32>,
     pub g55: Axes<i32>,
@@ -64,7 +41,7 @@ pub struct Zeros {
 }
 
 /// An open repeat: its line, and the rounds that are left.
-#[derive(Clone, Copy, Drop)]
+#[derive(Clone, Copy, Drop, PartialEq, Eq)]
 pub struct Repeat {
     pub line: usize,
     pub left: u32,

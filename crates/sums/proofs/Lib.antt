@@ -1,2 +1,2 @@
-mod Spans
+mod Amounts
 mod Walks

@@ -1,10 +1,11 @@
 //! A sign and a mark, where a line has one at a place.
-ghost use Rattle.std.specs.Prelude.{◌≡◌};
-ghost use Rattle.lexer.specs.Model.{token_is};
-ghost use Rattle.sums.specs.Sums.{mark_sign, is_mark, is_the};
-ghost use Rattle.sums.specs.Model.{Signed, Took};
+ghost use Rattle.std.specs.Prelude.{◌≡◌, IfSome};
+ghost use Rattle.std.specs.Option.{option_map};
+ghost use Rattle.lexer.specs.Model.{ahead, token_is, Further};
+ghost use Rattle.sums.specs.Sums.{mark_sign, is_mark, is_the, take_mark};
+ghost use Rattle.sums.specs.Model.{Signed};
 
-use lexer::scan::token;
+use lexer::cursor::Cursor;
 use lexer::symbols::{Letter, Mark};
 use lexer::token::Token;
 
@@ -19,25 +20,22 @@ fn sign_mark(m: Mark) -> Option<bool>
     }
 }
 
-/// The sign at a place, true for minus, and the place after it.
-pub fn sign(line: &[u8], at: usize) -> Option<(bool, usize)>
-    ensures value { Signed line.now at result }
+/// The sign at a cursor, true for minus, and the cursor after it.
+pub fn sign(c: Cursor<'_>) -> Option<(bool, Cursor<'_>)>
+    ensures value { Signed c.entry result }
 {
-    let (t, next) = token(line, at);
+    let (t, next) = c.token();
     let Token::Mark(m) = t else {
         return None;
     };
-    match sign_mark(m) {
-        Some(minus) => Some((minus, next)),
-        None => None,
-    }
+    Some((sign_mark(m)?, next))
 }
 
 /// Whether a letter is a certain one.
 pub fn is_letter(a: Letter, b: Letter) -> bool
     ensures value { result ≡ is_the a b }
 {
-    a as u8 == b as u8
+    a == b
 }
 
 /// Whether a token is a certain mark.
@@ -45,15 +43,16 @@ pub fn is_mark(m: Mark, t: Token<'_>) -> bool
     ensures value { result ≡ is_mark m (token_is t.entry) }
 {
     match t {
-        Token::Mark(k) => m as u8 == k as u8,
+        Token::Mark(k) => m == k,
         _ => false,
     }
 }
 
-/// The place after a certain mark at a place.
-pub fn take(line: &[u8], at: usize, m: Mark) -> Option<usize>
-    ensures value { Took m line.now at result }
+/// The cursor after a certain mark at a cursor.
+pub fn take(c: Cursor<'_>, m: Mark) -> Option<Cursor<'_>>
+    ensures value { take_mark m (ahead c.entry) ≡ option_map ahead result }
+    ensures further { IfSome result (Further c.entry) }
 {
-    let (t, next) = token(line, at);
+    let (t, next) = c.token();
     if is_mark(m, t) { Some(next) } else { None }
 }

@@ -1,8 +1,8 @@
 //! A repeat is opened, counted down and closed.
-ghost use Rattle.std.specs.Prelude.{◌≡◌, ◌<◌, false, [], ◌∷◌, length};
-ghost use Rattle.rules.specs.Model.{open_of, last_of, before_last, Opened};
+ghost use Rattle.std.specs.Prelude.{◌≡◌, [], OnErr};
+ghost use Rattle.rules.specs.Model.{open_of, last_of, before_last, with_last, Opened};
 
-use super::{MOST_REPEATS, OpenRepeats};
+use super::{Full, MOST_REPEATS, OpenRepeats};
 use crate::state::Repeat;
 
 impl OpenRepeats {
@@ -20,38 +20,35 @@ impl OpenRepeats {
     pub(crate) fn last(&self) -> Option<Repeat>
         ensures value { result ≡ last_of (open_of self.now) }
     {
-        if self.used == 0 {
-            return None;
-        }
-        Some(self.rows[self.used - 1])
+        self.rows[..self.used].last().copied()
     }
 
     /// Opens a repeat, if there is room for one; else nothing changes.
-    pub(crate) fn open(&mut self, repeat: Repeat) -> bool
+    pub(crate) fn open(&mut self, repeat: Repeat) -> Result<(), Full>
         ensures value { Opened repeat (open_of self.old) (open_of self.new) result }
-        ensures same { result ≡ false → self.new ≡ self.old }
+        ensures same { OnErr result (self.new ≡ self.old) }
     {
         if self.used == MOST_REPEATS {
-            return false;
+            return Err(Full);
         }
         self.rows[self.used] = repeat;
         self.used += 1;
-        true
+        Ok(())
     }
 
-    /// Puts a repeat in the place of the last one opened.
+    /// Puts a repeat in the place of the last one opened, if one is open.
     pub(crate) fn replace_last(&mut self, repeat: Repeat)
-        requires { 0 < length (open_of self.old) }
-        ensures value { open_of self.new ≡ repeat ∷ before_last (open_of self.old) }
+        ensures value { open_of self.new ≡ with_last repeat (open_of self.old) }
     {
-        self.rows[self.used - 1] = repeat;
+        if let Some(place) = self.used.checked_sub(1) {
+            self.rows[place] = repeat;
+        }
     }
 
-    /// Closes the last one opened.
+    /// Closes the last one opened, if one is open.
     pub(crate) fn close(&mut self)
-        requires { 0 < length (open_of self.old) }
         ensures value { open_of self.new ≡ before_last (open_of self.old) }
     {
-        self.used -= 1;
+        self.used = self.used.saturating_sub(1);
     }
 }

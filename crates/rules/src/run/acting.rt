@@ -1,76 +1,79 @@
 //! A line of words acts: its functions first, then its motion.
-ghost use Rattle.std.specs.Prelude.{◌≡◌, ◌≤◌};
+ghost use Rattle.std.specs.Prelude.{◌≡◌, ◌+◌};
 ghost use Rattle.rules.specs.Moves.{settled, moves, acts};
-ghost use Rattle.rules.specs.Model.{state_of, event_of, Unchanged};
+ghost use Rattle.rules.specs.Model.{state_of, came_to, Unchanged};
 
-use super::{Made, RunState, Step};
-use crate::functions::{any, framed, in_force, stops};
-use crate::paths::line_motion;
+use super::{Done, Goes, MOST_MOTIONS, Made, RunState, Step};
+use crate::functions::{framed, in_force, stops};
+use crate::paths::Standing;
 use forms::said::Words;
 use motions::refusal::{Reason, Refusal};
-
-/// How many motions a run makes at most.
-const MOST_MOTIONS: usize = 1000;
+use sums::amount::Amount;
 
 impl RunState {
+    /// The refusal of the motion that the line would make.
+    fn motion_refusal(&self, reason: Reason) -> Refusal
+        ensures value { result ≡ record { reason = reason; line = self.now.due; motion = self.now.made + 1 } }
+    {
+        Refusal {
+            reason,
+            line: self.due,
+            motion: self.made + 1,
+        }
+    }
+
     /// Makes the motion of a line.
-    fn moves(&mut self, words: &Words<i64>) -> Result<Step, Refusal>
-        requires { self.old.due ≤ 2000 }
-        ensures value { event_of self.new result ≡ moves words.now (settled words.now (state_of self.old)) }
+    fn moves(&mut self, words: &Words<Amount>) -> Result<Done, Refusal>
+        ensures value { came_to self.old.due self.new result ≡ moves words.now (settled words.now (state_of self.old)) }
         ensures same { Unchanged self.old self.new result }
     {
         let functions = in_force(words, self.functions);
-        let line = self.due;
-        let number = self.made + 1;
-        let made = line_motion(&functions, &mut self.frame, &self.zeros, self.at, words);
-        let motion = match made {
-            Err(reason) => {
-                return Err(Refusal {
-                    reason,
-                    line,
-                    motion: number,
-                });
-            }
-            Ok(motion) => motion,
+        let standing = Standing {
+            functions: &functions,
+            zeros: &self.zeros,
+            at: self.at,
         };
+        let motion = standing
+            .line_motion(&mut self.frame, words)
+            .map_err(|reason| self.motion_refusal(reason))?;
         if self.made >= MOST_MOTIONS {
-            return Err(Refusal {
-                reason: Reason::MotionsMade,
-                line,
-                motion: number,
-            });
+            return Err(self.motion_refusal(Reason::MotionsMade));
         }
         self.functions = functions;
         self.frame = framed(words, self.frame);
         self.at = motion.row().end;
-        self.made = number;
-        self.due = line + 1;
-        Ok(Step {
-            made: Some(Made {
-                line,
-                motion,
-                limits: self.limits,
-                watched: functions.watched,
-            }),
-            ended: stops(words.action),
+        self.made += 1;
+        let made = Made {
+            line: self.due,
+            motion,
+            limits: self.limits,
+            watched: functions.watched,
+        };
+        Ok(Done {
+            step: Step {
+                made: Some(made),
+                ended: stops(words.action),
+            },
+            goes: Goes::On,
         })
     }
 
     /// Does what a line of words says.
-    pub(super) fn acts(&mut self, words: &Words<i64>) -> Result<Step, Refusal>
-        requires { self.old.due ≤ 2000 }
-        ensures value { event_of self.new result ≡ acts words.now (state_of self.old) }
+    pub(super) fn acts(&mut self, words: &Words<Amount>) -> Result<Done, Refusal>
+        ensures value { came_to self.old.due self.new result ≡ acts words.now (state_of self.old) }
         ensures same { Unchanged self.old self.new result }
     {
-        if any(&words.axes) || any(&words.centres) {
+        if !words.axes.is_empty() || !words.centres.is_empty() {
             return self.moves(words);
         }
         self.functions = in_force(words, self.functions);
         self.frame = framed(words, self.frame);
-        self.due += 1;
-        Ok(Step {
-            made: None,
-            ended: stops(words.action),
+        Ok(Done {
+            step: Step {
+                made: None,
+                ended: stops(words.action),
+            },
+            goes: Goes::On,
         })
     }
 }

@@ -4,7 +4,7 @@ ghost use Rattle.rules.specs.State.{start as starts_at};
 ghost use Rattle.rules.specs.Steps.{most_lines, step as step_is};
 ghost use Rattle.rules.specs.Model.{setup_is, state_in, left_in, event_in, Counted};
 
-use super::{Run, RunState, Setup, Step};
+use super::{Goes, Run, RunState, Setup, Step};
 use crate::open::OpenRepeats;
 use crate::source::Source;
 use crate::state::{Frame, Functions, Interpolation, Measure};
@@ -50,25 +50,22 @@ impl Run {
         ensures left { Counted self.old self.new result }
     {
         let count = source.count();
-        if self.state.due > count {
-            return Err(Refusal {
-                reason: Reason::NoEnd,
-                line: count,
-                motion: 0,
-            });
+        let line = self.state.due;
+        if line > count {
+            return Err(Refusal::of_line(Reason::NoEnd, count));
         }
         if self.left == 0 {
-            return self.state.refused(Reason::LinesRun);
+            return Err(self.state.refusal(Reason::LinesRun));
         }
-        let Some(says) = source.says(self.state.due, &self.state.params) else {
-            return self.state.refused(Reason::ValueRange);
+        let says = source
+            .says(line, &self.state.params)
+            .ok_or(self.state.refusal(Reason::ValueRange))?;
+        let done = self.state.performs(source, says)?;
+        self.left -= 1;
+        self.state.due = match done.goes {
+            Goes::On => line + 1,
+            Goes::To(goal) => goal,
         };
-        match self.state.performs(source, says) {
-            Err(refusal) => Err(refusal),
-            Ok(step) => {
-                self.left -= 1;
-                Ok(step)
-            }
-        }
+        Ok(done.step)
     }
 }

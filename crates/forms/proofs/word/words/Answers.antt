@@ -6,30 +6,38 @@ use Rattle.forms.proofs.word.words.Goals as goal
 
 pub returns-in_err-w : goal.returns-in_err-w
 returns-in_err-w c =
-    let s = c.args.line.now in
+    let s = c.args.c.line.now in
+    let so_far = c.loop-place.invariant in
     record {
       value =
-          c.loop-all.invariant None (λ f h. no_word s c.loop-all.all c.loop-all.p f (omega arith) c.loop-all-test.ensures.value c.in_err-w.ensures.value)
+          so_far.said None (λ f h. no_word s c.loop-place.all c.loop-place.place so_far.line f (omega arith) c.loop-place-test.ensures.value c.in_err-w.ensures.value)
           ∙ ap (option_map (words_is s)) (sym c.from_residual.ensures);
     }
 
 pub returns-in_err-all : goal.returns-in_err-all
 returns-in_err-all c =
-    let s = c.args.line.now in
+    let s = c.args.c.line.now in
+    let so_far = c.loop-place.invariant in
     record {
       value =
-          c.loop-all.invariant None (λ f h. one_word_lem s c.loop-all.all c.loop-all.p f (omega arith) c.in_ok-w.w c.in_ok-w.next None c.loop-all-test.ensures.value c.in_ok-w.ensures.value c.in_err-all.ensures.value)
+          so_far.said None (λ f h. one_word_lem s c.loop-place.all c.loop-place.place so_far.line f (omega arith) c.in_ok-w.w c.in_ok-w.next None c.loop-place-test.ensures.value c.in_ok-w.ensures.value c.in_err-all.ensures.value)
           ∙ ap (option_map (words_is s)) (sym c.from_residual-in_err-all.ensures);
     }
 
-pub loop-all-preserved : goal.loop-all-preserved
-loop-all-preserved c =
-    let s = c.args.line.now in
-    λ o more.
-    c.loop-all.invariant o
-    (λ f h.
-    one_word_lem s c.loop-all.all c.loop-all.p f (omega arith) c.in_ok-w.w c.in_ok-w.next (Some c.in_ok-all.all) c.loop-all-test.ensures.value c.in_ok-w.ensures.value c.in_ok-all.ensures.value
-    ∙ more (f - 1) (omega (arith, c.in_ok-w.ensures.past)))
+pub loop-place-preserved : goal.loop-place-preserved
+loop-place-preserved c =
+    let so_far = c.loop-place.invariant in
+    let word = c.in_ok-w.ensures in
+    record {
+      line = word.past.line ∙ so_far.line;
+      said = λ o more.
+          so_far.said o
+          (λ f h.
+          one_word_lem c.args.c.line.now c.loop-place.all c.loop-place.place so_far.line f (omega arith) c.in_ok-w.w c.in_ok-w.next (Some c.in_ok-all.all) c.loop-place-test.ensures.value word.value c.in_ok-all.ensures.value
+          ∙ more (f - 1) (omega (arith, word.past.fewer)));
+    }
 
 pub returns : goal.returns
-returns c = record { value = c.loop-all.invariant _ (λ f h. at_the_end c.args.line.now c.loop-all.all c.loop-all.p f (omega arith) c.loop-all-test.ensures.value) }
+returns c =
+    let so_far = c.loop-place.invariant in
+    record { value = so_far.said _ (λ f h. at_the_end c.args.c.line.now c.loop-place.all c.loop-place.place so_far.line f (omega arith) c.loop-place-test.ensures.value) }

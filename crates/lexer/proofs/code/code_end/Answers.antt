@@ -1,14 +1,13 @@
-use Rattle.std.proofs.Common.{not, ap, arith}
-use Rattle.std.proofs.lemmas.Bool.{eq-eqb, ne_eqb}
+use Rattle.std.proofs.Common.{drop, rules, tests, ap, ◌∙◌, ◌+◌}
+use Rattle.std.proofs.lemmas.Iterator.{YieldsList-from_slice}
+use Rattle.std.proofs.lemmas.Iterator.Adapters.{YieldsList-from_skip}
+use Rattle.std.proofs.lemmas.Iterator.Consumers.{count_from_yields_List}
+use Rattle.std.proofs.lemmas.Iterator.Search.{YieldsList-from_take_while}
+use Rattle.std.proofs.lemmas.List.Folds.{length-prefix_len}
 use Rattle.lexer.specs.Bytes.{in_code}
-use Rattle.lexer.proofs.Lengths.{run_end, run_stop, run_on}
 use Rattle.lexer.proofs.code.code_end.Goals as goal
 
-pub loop-i-preserved : goal.loop-i-preserved
-loop-i-preserved c = omega (arith, run_on in_code c.args.line.now c.loop-i.i c.loop-i-test.true (ap not (ne_eqb _ 59 c.if-line-i-ne-SEMICOLON.true)))
-
-pub returns-else-line-i-ne-SEMICOLON : goal.returns-else-line-i-ne-SEMICOLON
-returns-else-line-i-ne-SEMICOLON c = record { value = omega (arith, run_stop in_code c.args.line.now c.loop-i.i c.loop-i-test.true (ap not (eq-eqb _ 59 c.if-line-i-ne-SEMICOLON.false))) }
-
-pub returns-after-loop-i : goal.returns-after-loop-i
-returns-after-loop-i c = record { value = omega (arith, run_end in_code c.args.line.now c.loop-i.i (omega arith)) }
+pub returns : goal.returns
+returns c =
+    let s = drop c.args.from c.args.line.now in
+    record { value = ap (λ n. c.args.from + n) (count_from_yields_List c.take_while.result _ c.count.ensures.ran (YieldsList-from_take_while _ in_code (YieldsList-from_skip c.args.from (YieldsList-from_slice c.args.line.now cc) cc) c.take_while.ensures.closure c.take_while.ensures.done (λ x b q k. search (rules, tests))) ∙ length-prefix_len in_code s) }

@@ -1,13 +1,12 @@
 use Rattle.std.proofs.Common.{◌<◌, length, arith, rules}
-use Rattle.std.proofs.lemmas.Bool.{true≢false}
 use Rattle.rules.specs.Model.{open_of}
 use Rattle.rules.specs.Steps.{most_repeats}
 use Rattle.rules.proofs.Stacked.{pushed, deep}
 use Rattle.rules.proofs.open.OpenRepeats.open.Goals as goal
 
-pub returns : goal.returns
-returns c =
+pub returns-clause-value : goal.returns-clause-value
+returns-clause-value c =
     let o = c.args.self.now in
     let room : o.used < length o.rows = search rules in
     let few : length (open_of o) < most_repeats = omega (arith, deep o.rows o.used, o.few) in
-    record { value = (few, pushed o.rows o.used c.args.repeat room); same = λ e. absurd (true≢false e) }
+    (few, pushed o.rows o.used c.args.repeat room)

@@ -1,11 +1,12 @@
-use Rattle.std.proofs.Common.{◌-◌, ◌<◌, ◌∷◌, length, sym, ap, ◌∙◌, arith, rules}
-use Rattle.rules.specs.Model.{before_last}
-use Rattle.rules.proofs.Stacked.{top, replaced, deep}
+use Rattle.std.proofs.Common.{◌≡◌, ◌<◌, suc, length, arith, rules}
+use Rattle.rules.specs.Model.{stacked, with_last}
+use Rattle.rules.proofs.Stacked.{replaced}
 use Rattle.rules.proofs.open.OpenRepeats.replace_last.Goals as goal
 
-pub returns : goal.returns
-returns c =
+pub returns-in-Some : goal.returns-in-Some
+returns-in-Some c =
     let o = c.args.self.now in
-    let some : 0 < o.used = omega (arith, deep o.rows o.used) in
-    let room : o.used - 1 < length o.rows = search rules in
-    record { value = replaced o.rows o.used c.args.repeat some room ∙ ap (λ os. c.args.repeat ∷ os) (sym (ap before_last (top o.rows o.used some))) }
+    let k = c.in-Some.place in
+    let used : o.used ≡ suc k = grind arith in
+    let room : k < length o.rows = omega arith in
+    record { value = rw used (replaced o.rows k c.args.repeat room) }
