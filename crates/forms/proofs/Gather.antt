@@ -58,30 +58,6 @@ module _ (line : List ℕ) where
   entered_said (Action v) ws = once_mapped (words_is line) ws.action _
   entered_said (Area on) ws = once_mapped (words_is line) ws.area _
 
-  none_said : (o : Option Value) → is_none (option_map (value_is line) o) ≡ is_none o
-  none_said None = refl
-  none_said (Some v) = refl
-
-  none_named_lem : (a : Each Value) → none_named (axes_is line a) ≡ none_named a
-  none_named_lem a = λ j. none_said a.x j && (none_said a.y j && none_said a.z j)
-
-  cond_mapped : (b : Bool) (a : Each Value) → cond b (Some (axes_is line a)) None ≡ option_map (axes_is line) (cond b (Some a) None)
-  cond_mapped true a = refl
-  cond_mapped false a = refl
-
-  pub only_axes_lem : (ws : Words Value) (o : Option (Each Value)) → o ≡ only_axes ws → only_axes (words_is line ws) ≡ option_map (axes_is line) o
-  only_axes_lem ws o e =
-      (λ j. cond ((no_modal ws.groups && no_flag ws.groups) && (none_named_lem ws.centres j && (no_numbered ws && is_none ws.area))) (Some (axes_is line ws.axes)) None)
-      ∙ cond_mapped ((no_modal ws.groups && no_flag ws.groups) && (none_named ws.centres && (no_numbered ws && is_none ws.area))) ws.axes
-      ∙ ap (option_map (axes_is line)) (sym e)
-
-  some_by : (b : Bool) (a : Each Value) → cond b None (Some (axes_is line a)) ≡ option_map (axes_is line) (cond b None (Some a))
-  some_by true a = refl
-  some_by false a = refl
-
-  pub some_axis_lem : (a : Each Value) (o : Option (Each Value)) → o ≡ some_axis a → some_axis (axes_is line a) ≡ option_map (axes_is line) o
-  some_axis_lem a o e = ap (λ b. cond b None (Some (axes_is line a))) (none_named_lem a) ∙ some_by (none_named a) a ∙ ap (option_map (axes_is line)) (sym e)
-
 -- One turn
 
 words_is_lem : (f : ℕ) (ws : Words Sum) (ts : List Token) → 0 < f → words_from f ws ts ≡ pick (is_end (first ts)) (λ u. Some ws) (λ u. beside (one_word (first u) (rest u)) ws (λ vs v. words_from (f - 1) vs v)) ts

@@ -1,30 +1,12 @@
 //! The G functions of a line.
 ghost use Rattle.std.specs.Prelude.{◌≡◌};
-ghost use Rattle.forms.specs.Groups.{with_g, no_modal, no_flag, no_group};
+ghost use Rattle.forms.specs.Groups.{with_g, no_modal, no_flag};
 
 use crate::modal::Modal;
 use crate::said::{Groups, Interpolation, Measure, Slot};
 use motions::axes::Plane;
 
 impl Groups {
-    /// No function.
-    pub(crate) fn none() -> Groups
-        ensures value { result ≡ no_group }
-    {
-        Groups {
-            motion: None,
-            plane: None,
-            measure: None,
-            zero: None,
-            g53: false,
-            g40: false,
-            g60: false,
-            g64: false,
-            g71: false,
-            g94: false,
-        }
-    }
-
     /// These and the function `g`, if it has a group and the group has none yet.
     pub fn with(self, g: u32) -> Option<Groups>
         ensures value { result ≡ with_g g self }

@@ -65,32 +65,17 @@ impl Command {
         if !n.closed {
             return None;
         }
-        let name = n.bytes;
-        if name.eq_ignore_ascii_case(b"walimon") {
-            return Some(Command::Walimon);
+        match n.bytes {
+            name if name.eq_ignore_ascii_case(b"walimon") => Some(Command::Walimon),
+            name if name.eq_ignore_ascii_case(b"walimof") => Some(Command::Walimof),
+            name if name.eq_ignore_ascii_case(b"trans") => Some(Command::Trans),
+            name if name.eq_ignore_ascii_case(b"atrans") => Some(Command::Atrans),
+            name if name.eq_ignore_ascii_case(b"gotof") => Some(Command::Gotof),
+            name if name.eq_ignore_ascii_case(b"gotob") => Some(Command::Gotob),
+            name if name.eq_ignore_ascii_case(b"if") => Some(Command::If),
+            name if name.eq_ignore_ascii_case(b"repeat") => Some(Command::Repeat),
+            _ => None,
         }
-        if name.eq_ignore_ascii_case(b"walimof") {
-            return Some(Command::Walimof);
-        }
-        if name.eq_ignore_ascii_case(b"trans") {
-            return Some(Command::Trans);
-        }
-        if name.eq_ignore_ascii_case(b"atrans") {
-            return Some(Command::Atrans);
-        }
-        if name.eq_ignore_ascii_case(b"gotof") {
-            return Some(Command::Gotof);
-        }
-        if name.eq_ignore_ascii_case(b"gotob") {
-            return Some(Command::Gotob);
-        }
-        if name.eq_ignore_ascii_case(b"if") {
-            return Some(Command::If);
-        }
-        if name.eq_ignore_ascii_case(b"repeat") {
-            return Some(Command::Repeat);
-        }
-        None
     }
 }
 
@@ -99,6 +84,6 @@ pub(crate) fn function(n: Number<'_>) -> Option<u32>
     ensures value { result ≡ function_of (num_is n.entry) }
 {
     let g = n.integer()?;
-    Groups::none().with(g)?;
+    Groups::default().with(g)?;
     Some(g)
 }

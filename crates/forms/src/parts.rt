@@ -10,7 +10,7 @@ use lexer::cursor::Cursor;
 use lexer::number::Number;
 use lexer::symbols::{Letter, Mark};
 use lexer::token::Token;
-use sums::marks::{is_letter, take};
+use sums::marks::take;
 use sums::reading::sum_end;
 use sums::value::Value;
 
@@ -37,8 +37,7 @@ pub(crate) fn name(c: Cursor<'_>) -> Option<(Place, Cursor<'_>)>
     ensures value { name_of (ahead c.entry) ≡ read_by (name_at c.entry.line.now) result }
     ensures past { Past c.entry result }
 {
-    let (t, next) = c.token();
-    let Token::Name(n) = t else {
+    let (Token::Name(n), next) = c.token() else {
         return None;
     };
     let length = n.bytes.len();
@@ -59,15 +58,10 @@ pub(crate) fn after_n(c: Cursor<'_>) -> Option<(Number<'_>, Cursor<'_>)>
     ensures value { after_n (ahead c.entry) ≡ read_by num_is result }
     ensures past { Past c.entry result }
 {
-    let (t, next) = c.token();
-    let Token::Word(l, n) = t else {
+    let (Token::Word(Letter::N, n), next) = c.token() else {
         return None;
     };
-    if is_letter(Letter::N, l) {
-        Some((n, next))
-    } else {
-        None
-    }
+    Some((n, next))
 }
 
 /// The target of a jump: a label, or N and its digits.
@@ -102,8 +96,7 @@ pub(crate) fn forward(c: Cursor<'_>) -> Option<(bool, Cursor<'_>)>
     ensures value { direction_of (ahead c.entry) ≡ read_by (λ d. d) result }
     ensures past { Past c.entry result }
 {
-    let (t, next) = c.token();
-    let Token::Name(n) = t else {
+    let (Token::Name(n), next) = c.token() else {
         return None;
     };
     Some((Command::of(n)?.heading()?, next))
@@ -131,8 +124,7 @@ fn comparison_at(c: Cursor<'_>) -> Option<(Comparison, Cursor<'_>)>
     ensures value { comparison_of (ahead c.entry) ≡ read_by (λ h. h) result }
     ensures past { Past c.entry result }
 {
-    let (t, next) = c.token();
-    let Token::Mark(m) = t else {
+    let (Token::Mark(m), next) = c.token() else {
         return None;
     };
     Some((Comparison::of(m)?, next))
@@ -161,20 +153,15 @@ pub(crate) fn times(c: Cursor<'_>) -> Option<(u32, Cursor<'_>)>
     ensures value { times_of (ahead c.entry) ≡ read_by (λ v. v) result }
     ensures past { Past c.entry result }
 {
-    let (t, second) = c.token();
-    let Token::Letter(l) = t else {
+    let (Token::Letter(Letter::P), second) = c.token() else {
         return None;
     };
-    if !is_letter(Letter::P, l) {
-        return None;
-    }
     let third = take(second, Mark::Equals)?;
-    let (n, next) = third.token();
-    let Token::Number(n) = n else {
+    let (Token::Number(n), next) = third.token() else {
         return None;
     };
     let v = n.integer()?;
-    if v >= 1 && v <= MOST_TIMES {
+    if (1..=MOST_TIMES).contains(&v) {
         Some((v, next))
     } else {
         None

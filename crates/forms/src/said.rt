@@ -55,7 +55,7 @@ pub enum Slot {
 }
 
 /// The G functions of a line, at most one of each group.
-#[derive(Clone, Copy, Drop, PartialEq, Eq)]
+#[derive(Clone, Copy, Default, Drop, PartialEq, Eq)]
 pub struct Groups {
     pub motion: Option<Interpolation>,
     pub plane: Option<Plane>,

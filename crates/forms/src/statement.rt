@@ -13,7 +13,7 @@ use lexer::cursor::Cursor;
 use lexer::number::Number;
 use lexer::symbols::{Letter, Mark};
 use lexer::token::Token;
-use sums::marks::{is_letter, take};
+use sums::marks::take;
 use sums::reading::sum_end;
 use sums::value::Value;
 
@@ -57,8 +57,7 @@ fn shift(c: Cursor<'_>, adds: bool) -> Option<Statement<Value, Place>>
 fn dwell(c: Cursor<'_>) -> Option<Statement<Value, Place>>
     ensures value { dwell_line (ahead c.entry) ≡ option_map (statement_is c.entry.line.now) result }
 {
-    let (t, next) = c.token();
-    let Token::Word(l, n) = t else {
+    let (Token::Word(l, n), next) = c.token() else {
         return None;
     };
     let p = pause(Kind::of(l)?, n)?;
@@ -138,21 +137,14 @@ pub(crate) fn statement(c: Cursor<'_>) -> Option<Statement<Value, Place>>
             Command::If => conditional(next),
             Command::Repeat => repeat(next),
         },
-        Token::Word(l, n) => {
-            if is_letter(Letter::R, l) {
-                return assign(next, n);
-            }
-            if !is_letter(Letter::G, l) {
-                return plain(c);
-            }
-            match n.integer()? {
-                25 => limits(next, false),
-                26 => limits(next, true),
-                4 => dwell(next),
-                _ => plain(c),
-            }
-        }
-        Token::Letter(_) => plain(c),
+        Token::Word(Letter::R, n) => assign(next, n),
+        Token::Word(Letter::G, n) => match n.integer()? {
+            25 => limits(next, false),
+            26 => limits(next, true),
+            4 => dwell(next),
+            _ => plain(c),
+        },
+        Token::Word(..) | Token::Letter(_) => plain(c),
         Token::End => Some(Statement::Nothing),
         _ => None,
     }

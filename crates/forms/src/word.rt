@@ -28,8 +28,7 @@ fn signed(c: Cursor<'_>) -> Option<(Value, Cursor<'_>)>
 {
     match sign(c) {
         Some((minus, start)) => {
-            let (t, next) = start.token();
-            let Token::Number(n) = t else {
+            let (Token::Number(n), next) = start.token() else {
                 return None;
             };
             let thousandths = n.thousandths()?;
@@ -110,8 +109,7 @@ fn word(c: Cursor<'_>) -> Option<(Word<Value>, Cursor<'_>)>
 pub(crate) fn at_end(c: Cursor<'_>) -> bool
     ensures value { result ≡ is_end (first (ahead c.entry)) }
 {
-    let (t, _) = c.token();
-    matches!(t, Token::End)
+    matches!(c.token(), (Token::End, _))
 }
 
 /// The words from a cursor to the end of the line, each address once.

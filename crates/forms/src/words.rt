@@ -21,9 +21,8 @@ impl<V: Copy> Words<V> {
     pub(crate) fn none() -> Words<V>
         ensures value { result ≡ no_words }
     {
-        let groups = Groups::none();
         Words {
-            groups,
+            groups: Groups::default(),
             axes: Axes::alike(None),
             centres: Axes::alike(None),
             feed: None,

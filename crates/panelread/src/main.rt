@@ -3,39 +3,15 @@
 
 mod pieces;
 mod statement;
+mod sum;
+mod words;
 
-use pieces::Listing;
-use reading::program::{Held, Program};
+use pieces::Shown;
+use reading::program::Program;
 use std::io::Read;
 
 /// One byte more than a text may have: enough to see that it has too many.
 const ENOUGH: u64 = 65_537;
-
-/// Writes the canonical form of a line.
-fn show<'x>(rt: &'x HostRuntime, text: &'x [u8], held: Held) -> anyhow::Result<()> {
-    let mut listing = Listing::new(rt, text, held.end);
-    if let Some(number) = held.line.number {
-        listing.number('N', number)?;
-    }
-    if let Some(label) = held.line.label {
-        listing.gap()?;
-        listing.name(label)?;
-        print!(rt; ":")?;
-    }
-    statement::show(&mut listing, held.line.says)?;
-    println!(rt)?;
-    Ok(())
-}
-
-/// Writes the canonical form of every line of a read program.
-fn list(rt: &HostRuntime, program: &Program<'_>) -> anyhow::Result<()> {
-    for number in 1..=program.count() {
-        if let Some(held) = program.line(number) {
-            show(rt, program.text(), held)?;
-        }
-    }
-    Ok(())
-}
 
 fn run(rt: &HostRuntime) -> anyhow::Result<()> {
     let heap = rt.alloc();
@@ -43,13 +19,17 @@ fn run(rt: &HostRuntime) -> anyhow::Result<()> {
     rt.stdin().take(ENOUGH).read_to_end(&mut text)?;
     let mut program = Program::new(heap)?;
     if let Err(refusal) = program.read(text.as_slice()) {
-        let number = refusal.reason.number();
-        let line = refusal.line;
-        let motion = refusal.motion;
-        println!(rt; "refused {number} {line} {motion}")?;
+        println!(rt; "{refusal}")?;
         return Ok(());
     }
-    list(rt, &program)
+    for held in program.lines() {
+        let line = Shown {
+            text: program.up_to(*held),
+            said: held.line,
+        };
+        println!(rt; "{line}")?;
+    }
+    Ok(())
 }
 
 fn main(rt: HostRuntime) -> anyhow::Result<()> {

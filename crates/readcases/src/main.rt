@@ -14,52 +14,21 @@ fn tell(rt: &HostRuntime, name: &str) -> anyhow::Result<()> {
             let count = program.count();
             println!(rt; "{name}: {count} lines")?;
         }
-        Err(refusal) => {
-            let number = refusal.reason.number();
-            let line = refusal.line;
-            let motion = refusal.motion;
-            println!(rt; "{name}: refused {number} {line} {motion}")?;
-        }
+        Err(refusal) => println!(rt; "{name}: {refusal}")?,
     }
     Ok(())
-}
-
-/// The first line of a text that is not empty, and what follows its end.
-fn cut(text: &[u8]) -> (&[u8], &[u8]) {
-    for (place, byte) in text.iter().enumerate() {
-        if *byte == b'\n' {
-            let (line, rest) = text.split_at(place);
-            let (_, after) = rest.split_at(1);
-            return (line, after);
-        }
-    }
-    text.split_at(text.len())
-}
-
-/// Whether a line, as a text of its own, can be read.
-fn has_form(rt: &HostRuntime, line: &[u8]) -> anyhow::Result<bool> {
-    let mut program = Program::new(rt.alloc())?;
-    Ok(program.read(line).is_ok())
 }
 
 /// Reads each line of a file as a text of its own and tells how many of them have a form.
 fn tell_lines(rt: &HostRuntime, name: &str) -> anyhow::Result<()> {
     let text = fs::read(rt, name)?;
-    let mut read: u64 = 0;
-    let mut refused: u64 = 0;
-    let mut rest = text.as_slice();
-    for _ in 0..text.len() {
-        if rest.is_empty() {
-            break;
-        }
-        let (line, after) = cut(rest);
-        if has_form(rt, line)? {
-            read = read.saturating_add(1);
-        } else {
-            refused = refused.saturating_add(1);
-        }
-        rest = after;
-    }
+    let mut program = Program::new(rt.alloc())?;
+    let all = text.split_inclusive(|byte| *byte == b'\n').count();
+    let read = text
+        .split_inclusive(|byte| *byte == b'\n')
+        .filter(|line| program.read(line).is_ok())
+        .count();
+    let refused = all.saturating_sub(read);
     println!(rt; "{name}: {read} lines of a form, {refused} of none")?;
     Ok(())
 }

@@ -1,5 +1,6 @@
 -- What a text says, and what reading one does to a program. Assumes nothing.
 --     Text                       the lines of a text, as data; or it is too large; or its first line of no form
+--     formless p                 whether a line has none of the forms
 --     read_lines n i ls          what the lines ls say, of which the first has the number n and the place i
 --     read_text s                what a text says
 --     refusal t                  the refusal of such a text, if it is one
@@ -8,13 +9,15 @@
 --     held_text p, held_lines p  the text of a program, and what its lines say
 --     Read s p q r               reading s turns the program p into q and answers r
 use Rattle.std.specs.Prelude.{◌≡◌, ℕ, ◌+◌, Bool, true, false, List, [], ◌∷◌, map, length, take, Some, None, Ok, Err, vec_items, Option, Result}
+use Rattle.std.specs.Option.{is_none}
 use Rattle.motions.specs.declared.refusal.Reason.TheVariants.{TextSize, LineForm}
 use Rattle.motions.specs.declared.refusal.Refusal.{Refusal}
+use Rattle.motions.specs.Refusals.{refused_on}
 use Rattle.forms.specs.declared.said.Line.{Line}
 use Rattle.sums.specs.Sums.{Sum}
 use Rattle.forms.specs.Forms.{Named, line_at}
 use Rattle.forms.specs.Model.{line_is}
-use Rattle.reading.specs.Lines.{lines_of, limits}
+use Rattle.reading.specs.Lines.{lines_of, limits, Placed}
 use Rattle.reading.specs.declared.program.Held.{Held}
 use Rattle.reading.specs.declared.program.Program.{Program}
 
@@ -32,6 +35,9 @@ abbrev pub or_bad : Option (Line Sum Named) → ℕ → (Unit {0} → Text) → 
 or_bad None n more = bad_line n
 or_bad (Some l) n more = above l (more tt)
 
+abbrev pub formless : Placed → Bool
+formless p = is_none (line_at p.from p.bytes)
+
 unfoldable pub read_lines : ℕ → ℕ → List (List ℕ) → Text
 read_lines n i [] = lines []
 read_lines n i (l ∷ ls) = or_bad (line_at i l) n (λ u. read_lines (n + 1) (i + length l + 1) ls)
@@ -45,8 +51,8 @@ read_text s = by_limits (limits s) s
 
 abbrev pub refusal : Text → Option Refusal
 refusal (lines ls) = None
-refusal too_large = Some (record { reason = TextSize; line = 0; motion = 0 })
-refusal (bad_line n) = Some (record { reason = LineForm; line = n; motion = 0 })
+refusal too_large = Some (refused_on TextSize 0)
+refusal (bad_line n) = Some (refused_on LineForm n)
 
 abbrev pub bad : Text → Option ℕ
 bad (lines ls) = None

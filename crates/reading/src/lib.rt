@@ -3,6 +3,7 @@
 
 pub mod held;
 pub mod laws;
+mod line;
 pub mod lines;
 pub mod program;
 pub mod read;

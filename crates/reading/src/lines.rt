@@ -1,44 +1,81 @@
 //! The lines of a text, and the limits of a text.
-ghost use Rattle.std.specs.Prelude.{◌≡◌, ◌+◌, ◌-◌, ◌<◌, drop};
-ghost use Rattle.lexer.specs.Bytes.{run};
-ghost use Rattle.reading.specs.Lines.{in_line, limits};
+ghost use Rattle.std.specs.Prelude.{◌≡◌, ◌+◌, length, drop};
+ghost use Rattle.std.specs.Iterator.{YieldsFirstBy, item_count};
+ghost use Rattle.std.specs.List.{prefix_len};
+ghost use Rattle.reading.specs.Lines.{in_line, limits, bytes_of, placed, placed_line, lines_left};
 
+use crate::line::TextLine;
 use crate::program::MOST_LINES;
 
 /// How many bytes a text has at most, and how many a line has.
 const MOST_BYTES: usize = 65_536;
 
 const LINE_BYTES: usize = 512;
+
 /// What ends a line.
-const LINE_END: u8 = 10;
+const LINE_END: u8 = b'\n';
 
 /// Where the line that begins at a place ends.
-pub(crate) fn line_end(text: &[u8], from: usize) -> usize
-    ensures value { result ≡ from + run in_line (drop from text.now) }
+fn line_end(text: &[u8], from: usize) -> usize
+    ensures value { result ≡ from + prefix_len in_line (drop from text.now) }
 {
-    let mut i = from;
-    while i < text.len() && text[i] != LINE_END {
-        i += 1;
+    from + text
+        .iter()
+        .skip(from)
+        .take_while(|b| **b != LINE_END)
+        .count()
+}
+
+/// The lines of a text from a place on, one after the other.
+#[derive(Drop)]
+pub(crate) struct Lines<'t> {
+    text: &'t [u8],
+    from: usize,
+}
+
+impl<'t> Lines<'t> {
+    /// All lines of a text.
+    pub(crate) fn of(text: &'t [u8]) -> Lines<'t>
+        ensures value { lines_left result ≡ placed text.now }
+    {
+        Lines { text, from: 0 }
     }
-    i
+}
+
+impl<'t> Iterator for Lines<'t> {
+    type Item = TextLine<'t>;
+
+    ghost next_gives = { YieldsFirstBy placed_line lines_left };
+
+    ghost remaining = { item_count lines_left };
+
+    /// A line end after the last byte opens no line.
+    fn next(&mut self) -> Option<TextLine<'t>> {
+        let text = self.text;
+        let from = self.from;
+        if from >= text.len() {
+            return None;
+        }
+        let end = line_end(text, from);
+        self.from = end + 1;
+        Some(TextLine { text, from, end })
+    }
+}
+
+impl TextLine<'_> {
+    /// How many bytes the line has.
+    fn len(self) -> usize
+        ensures value { result ≡ length (bytes_of self.entry) }
+    {
+        self.end - self.from
+    }
 }
 
 /// Whether a text is within its three limits.
 pub fn within_limits(text: &[u8]) -> bool
     ensures value { result ≡ limits text.now }
 {
-    if text.len() > MOST_BYTES {
-        return false;
-    }
-    let mut from = 0;
-    let mut n: usize = 0;
-    while from < text.len() {
-        let end = line_end(text, from);
-        if n == MOST_LINES || end - from > LINE_BYTES {
-            return false;
-        }
-        n += 1;
-        from = end + 1;
-    }
-    true
+    text.len() <= MOST_BYTES
+        && Lines::of(text).count() <= MOST_LINES
+        && Lines::of(text).all(|line| line.len() <= LINE_BYTES)
 }

@@ -8,6 +8,7 @@ use sums::value::Value;
 pub(crate) const MOST_LINES: usize = 2000;
 
 /// A line as it is held: where its code ends in the text, and what it says.
+// Names and sums are held by their places in the text: that is a form that was asked for.
 #[derive(Clone, Copy)]
 pub struct Held {
     pub end: usize,

@@ -1,44 +1,46 @@
 //! Reading a text into a program.
-ghost use Rattle.std.specs.Prelude.{◌≡◌, ◌+◌, ◌-◌, ◌<◌, ◌≤◌, true, [], map, length, take, drop, IfOk, None, vec_len, vec_capacity};
+ghost use Rattle.std.specs.Prelude.{◌≡◌, ◌≤◌, true, [], map, IfOk, None, vec_len, vec_capacity};
 ghost use Rattle.std.specs.Option.{option_map};
 ghost use Rattle.forms.specs.Forms.{line_at};
-ghost use Rattle.reading.specs.Lines.{lines_of, limits};
-ghost use Rattle.reading.specs.Reading.{lines as whole, read_lines, bad, said, held_text, held_lines, Read};
+ghost use Rattle.reading.specs.Lines.{lines_of, limits, bytes_of, placed_line};
+ghost use Rattle.reading.specs.Reading.{lines as whole, formless, read_lines, bad, said, held_text, held_lines, Read};
 
-use crate::lines::{line_end, within_limits};
+use crate::line::TextLine;
+use crate::lines::{Lines, within_limits};
 use crate::program::{Held, MOST_LINES, Program};
 use forms::line::line_at;
 use lexer::code::code_end;
+use lexer::cursor::Cursor;
 use motions::refusal::{Reason, Refusal};
 use std::alloc::{AllocError, Global};
 
-/// The line that lies from one place of a text up to another, if it has a form.
-fn held(text: &[u8], from: usize, end: usize) -> Option<Held>
-    requires low { from ≤ end }
-    requires high { end ≤ length text.now }
-    ensures value { line_at from (take (end - from) (drop from text.now)) ≡ option_map (said text.now) result }
-{
-    let code = code_end(&text[0..end], from);
-    let line = line_at(&text[0..code], from)?;
-    Some(Held { end: code, line })
+impl TextLine<'_> {
+    /// What the line says, if it has a form.
+    fn held(self) -> Option<Held>
+        ensures value { line_at self.entry.from (bytes_of self.entry) ≡ option_map (said self.entry.text.now) result }
+    {
+        let code = code_end(&self.text[..self.end], self.from);
+        let line = line_at(Cursor {
+            line: &self.text[..code],
+            at: self.from,
+        })?;
+        Some(Held { end: code, line })
+    }
+
+    /// Whether the line has no form.
+    fn is_bad(self) -> bool
+        ensures value { result ≡ formless (placed_line self.entry) }
+    {
+        self.held().is_none()
+    }
 }
 
 /// The number of the first line of no form, if there is one.
 fn first_bad(text: &[u8]) -> Option<usize>
-    requires { length text.now ≤ 65536 }
     ensures value { result ≡ bad (read_lines 1 0 (lines_of text.now)) }
 {
-    let mut from = 0;
-    let mut n: usize = 1;
-    while from < text.len() {
-        let end = line_end(text, from);
-        let Some(_) = held(text, from, end) else {
-            return Some(n);
-        };
-        n += 1;
-        from = end + 1;
-    }
-    None
+    let before = Lines::of(text).position(|line| line.is_bad())?;
+    Some(before + 1)
 }
 
 /// Puts the lines of a text that can be read in the place of those that were there.
@@ -51,14 +53,11 @@ fn fill(lines: &mut Vec<Held>, text: &[u8])
     ensures few { vec_len lines.new ≤ 2000 }
 {
     lines.clear();
-    let mut from = 0;
-    while from < text.len() {
-        let end = line_end(text, from);
-        let Some(line) = held(text, from, end) else {
+    for line in Lines::of(text) {
+        let Some(held) = line.held() else {
             unreachable()
         };
-        lines.push_reserved(line);
-        from = end + 1;
+        lines.push_reserved(held);
     }
 }
 
@@ -76,18 +75,10 @@ impl<'t> Program<'t> {
         ensures value { Read text.now self.old self.new result }
     {
         if !within_limits(text) {
-            return Err(Refusal {
-                reason: Reason::TextSize,
-                line: 0,
-                motion: 0,
-            });
+            return Err(Refusal::of_line(Reason::TextSize, 0));
         }
         if let Some(line) = first_bad(text) {
-            return Err(Refusal {
-                reason: Reason::LineForm,
-                line,
-                motion: 0,
-            });
+            return Err(Refusal::of_line(Reason::LineForm, line));
         }
         fill(&mut self.lines, text);
         self.text = text;

@@ -1,14 +1,13 @@
-use Rattle.std.proofs.Common.{not, ap, arith}
-use Rattle.std.proofs.lemmas.Bool.{eq-eqb, ne_eqb}
-use Rattle.lexer.proofs.Lengths.{run_end, run_stop, run_on}
+use Rattle.std.proofs.Common.{drop, arith, rules, tests}
+use Rattle.std.proofs.lemmas.Iterator.{YieldsList-from_slice}
+use Rattle.std.proofs.lemmas.Iterator.Adapters.{YieldsList-from_skip}
+use Rattle.std.proofs.lemmas.Iterator.Consumers.{count_from_yields_List}
+use Rattle.std.proofs.lemmas.Iterator.Search.{YieldsList-from_take_while}
+use Rattle.std.proofs.lemmas.List.Folds.{length-prefix_len}
 use Rattle.reading.specs.Lines.{in_line}
 use Rattle.reading.proofs.lines.line_end.Goals as goal
 
-pub loop-i-preserved : goal.loop-i-preserved
-loop-i-preserved c = omega (arith, run_on in_line c.args.text.now c.loop-i.i c.loop-i-test.true (ap not (ne_eqb _ 10 c.if-text-i-ne-LINE_END.true)))
-
-pub returns-else-text-i-ne-LINE_END : goal.returns-else-text-i-ne-LINE_END
-returns-else-text-i-ne-LINE_END c = record { value = omega (arith, run_stop in_line c.args.text.now c.loop-i.i c.loop-i-test.true (ap not (eq-eqb _ 10 c.if-text-i-ne-LINE_END.false))) }
-
-pub returns-after-loop-i : goal.returns-after-loop-i
-returns-after-loop-i c = record { value = omega (arith, run_end in_line c.args.text.now c.loop-i.i (omega arith)) }
+pub returns : goal.returns
+returns c =
+    let n = count_from_yields_List c.take_while.result c.count.result c.count.ensures.ran (YieldsList-from_take_while _ in_line (YieldsList-from_skip c.args.from (YieldsList-from_slice c.args.text.now cc) (cc)) c.take_while.ensures.closure c.take_while.ensures.done (λ x b q k. search (rules, tests))) in
+    record { value = omega (arith, n, length-prefix_len in_line (drop c.args.from c.args.text.now)) }

@@ -1,27 +1,37 @@
-use Rattle.std.proofs.Common.{length, inl, inr, zero-add, arith}
-use Rattle.std.proofs.lemmas.Bool.{le-leb}
-use Rattle.reading.proofs.Lined.{one_line, over, on, over_all}
+use Rattle.std.proofs.Common.{◌≡◌, ℕ, Bool, leb, length, true, false, sym, ap, ◌∙◌, inl, arith, rules, tests}
+use Rattle.std.proofs.lemmas.Bool.{lt-leb}
+use Rattle.std.proofs.lemmas.Iterator.Consumers.{YieldsList-from_first, count_from_yields_List}
+use Rattle.std.proofs.lemmas.Iterator.Search.{all_from_yields_List}
+use Rattle.reading.specs.Lines.{Placed, lines_of, placed, placed_line, lines_left}
+use Rattle.reading.proofs.Lined.{all_placed, fewer_lines, over_bytes, over_lines, by_lengths}
 use Rattle.reading.proofs.lines.within_limits.Goals as goal
-use Rattle.reading.proofs.lines.within_limits.Goals.{then-n-eq-MOST_LINES-via-then-n-eq-MOST_LINES, then-n-eq-MOST_LINES-via-else-n-eq-MOST_LINES+then-end-from-gt-LINE_BYTES}
+use Rattle.reading.proofs.lines.within_limits.Goals.{then-text-le-MOST_BYTES, else-text-le-MOST_BYTES}
 
-pub loop-from-init : goal.loop-from-init
-loop-from-init c = (omega arith, simp (zero-add, le-leb (length c.args.text.now) 65536 c.if-text-gt-MOST_BYTES.false))
+never : (b : Bool) → b ≡ false → b ≡ true → ⊥
+never b f t = let z : ◌≡◌ {A = ℕ} 0 1 = cc in omega arith
 
-pub returns-then-n-eq-MOST_LINES : goal.returns-then-n-eq-MOST_LINES
-returns-then-n-eq-MOST_LINES c =
-    let o = one_line c.args.text.now c.loop-from.from c.line_end-end.result c.loop-from-test.true c.line_end-end.ensures.value in
-    elim c.then-n-eq-MOST_LINES.branch [
-      | then-n-eq-MOST_LINES-via-then-n-eq-MOST_LINES w ↦ record { value = over _ _ _ c.loop-from.n _ o (inl w.if-n-eq-MOST_LINES.true) c.loop-from.invariant.1 }
-      | then-n-eq-MOST_LINES-via-else-n-eq-MOST_LINES+then-end-from-gt-LINE_BYTES w ↦ record { value = over _ _ _ c.loop-from.n _ o (inr w.if-end-from-gt-LINE_BYTES.true) c.loop-from.invariant.1 }
+pub count-requires-clause-fits : goal.count-requires-clause-fits
+count-requires-clause-fits c =
+    let s = c.args.text.now in
+    inl (omega (arith, ap length c.of.ensures.value, all_placed s 0 (lines_of s), fewer_lines s))
+
+pub returns-then-count-le-MOST_LINES : goal.returns-then-count-le-MOST_LINES
+returns-then-count-le-MOST_LINES c =
+    let s = c.args.text.now in
+    let short = all_from_yields_List (λ (p : Placed). leb (length p.bytes) 512) c.all.new.self _ c.all.result c.all.ensures.ran (YieldsList-from_first placed_line lines_left (placed s) c.of-then-count-le-MOST_LINES.ensures.value) (λ x b q k. search (rules, tests)) in
+    elim c.if-text-le-MOST_BYTES.branch [
+      | then-text-le-MOST_BYTES w ↦
+          let n = count_from_yields_List w.of.result w.count.result w.count.ensures.ran (YieldsList-from_first placed_line lines_left (placed s) w.of.ensures.value) in
+          record { value = by_lengths s w.count.result c.all.result w.if-text-le-MOST_BYTES.true n (sym w.value-is ∙ c.if-count-le-MOST_LINES.true) short }
+      | else-text-le-MOST_BYTES w ↦ absurd (never _ (lt-leb (length s) 65536 w.if-text-le-MOST_BYTES.false) (sym w.value-is ∙ c.if-count-le-MOST_LINES.true))
     ]
 
-pub overflow_add-n : goal.overflow_add-n
-overflow_add-n c = record { fits = omega arith }
-
-pub loop-from-preserved : goal.loop-from-preserved
-loop-from-preserved c =
-    let o = one_line c.args.text.now c.loop-from.from c.line_end-end.result c.loop-from-test.true c.line_end-end.ensures.value in
-    (omega (arith, c.loop-from.invariant.0, c.if-n-eq-MOST_LINES.false), on _ _ _ c.loop-from.n _ o c.if-end-from-gt-LINE_BYTES.false c.loop-from.invariant.1)
-
-pub returns : goal.returns
-returns c = record { value = over_all _ _ c.loop-from.n _ c.loop-from-test.false c.loop-from.invariant.0 c.loop-from.invariant.1 }
+pub returns-else-count-le-MOST_LINES : goal.returns-else-count-le-MOST_LINES
+returns-else-count-le-MOST_LINES c =
+    let s = c.args.text.now in
+    elim c.if-text-le-MOST_BYTES.branch [
+      | then-text-le-MOST_BYTES w ↦
+          let n = count_from_yields_List w.of.result w.count.result w.count.ensures.ran (YieldsList-from_first placed_line lines_left (placed s) w.of.ensures.value) in
+          record { value = c.if-count-le-MOST_LINES.false ∙ over_lines s w.count.result n (sym w.value-is ∙ c.if-count-le-MOST_LINES.false) }
+      | else-text-le-MOST_BYTES w ↦ record { value = c.if-count-le-MOST_LINES.false ∙ over_bytes s w.if-text-le-MOST_BYTES.false }
+    ]

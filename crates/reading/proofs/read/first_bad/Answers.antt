@@ -1,32 +1,31 @@
-use Rattle.std.proofs.Common.{sym, ◌∙◌, arith}
-use Rattle.reading.specs.Reading.{said}
-use Rattle.reading.proofs.Lined.{one_line}
-use Rattle.reading.proofs.Telling.{none_bad, bad_here, bad_later}
+use Rattle.std.proofs.Common.{◌+◌, length, sym, ap, ◌∙◌, inl, arith, rules, tests}
+use Rattle.std.proofs.lemmas.Iterator.Consumers.{YieldsList-from_first}
+use Rattle.std.proofs.lemmas.Iterator.Search.{position_from_yields_List}
+use Rattle.std.specs.Option.{option_map}
+use Rattle.reading.specs.Lines.{lines_of, placed, placed_line, lines_left}
+use Rattle.reading.specs.Reading.{formless}
+use Rattle.reading.proofs.Lined.{all_placed, fewer_lines}
+use Rattle.reading.proofs.Telling.{first_is}
 use Rattle.reading.proofs.read.first_bad.Goals as goal
 
-pub held-requires : goal.held-requires
-held-requires c =
-    let o = one_line c.args.text.now c.loop-from.from c.line_end-end.result c.loop-from-test.true c.line_end-end.ensures.value in
-    record { low = o.low; high = o.high }
-
-pub returns-in_default : goal.returns-in_default
-returns-in_default c =
-    let o = one_line c.args.text.now c.loop-from.from c.line_end-end.result c.loop-from-test.true c.line_end-end.ensures.value in
-    record { value = sym (bad_here c.args.text.now c.loop-from.n c.loop-from.from c.line_end-end.result o c.in_default.ensures.value) ∙ c.loop-from.invariant.1 }
-
-pub overflow_add-n : goal.overflow_add-n
-overflow_add-n c = record { fits = omega (arith, c.loop-from.invariant.0, c.loop-from-test.true, c.requires) }
-
-pub overflow_add-from : goal.overflow_add-from
-overflow_add-from c =
-    let o = one_line c.args.text.now c.loop-from.from c.line_end-end.result c.loop-from-test.true c.line_end-end.ensures.value in
-    record { fits = omega (arith, o.high, c.requires) }
-
-pub loop-from-preserved : goal.loop-from-preserved
-loop-from-preserved c =
+pub position-requires-clause-fits : goal.position-requires-clause-fits
+position-requires-clause-fits c =
     let s = c.args.text.now in
-    let o = one_line s c.loop-from.from c.line_end-end.result c.loop-from-test.true c.line_end-end.ensures.value in
-    (omega (arith, c.loop-from.invariant.0, o.low), bad_later s c.loop-from.n c.loop-from.from c.line_end-end.result o (said s c.in-Some.field-0) c.in-Some.ensures.value ∙ c.loop-from.invariant.1)
+    inl (omega (arith, ap length c.of.ensures.value, all_placed s 0 (lines_of s), fewer_lines s))
+
+pub returns-in_err-before : goal.returns-in_err-before
+returns-in_err-before c =
+    let s = c.args.text.now in
+    let found = position_from_yields_List formless c.position.new.self _ c.position.result c.position.ensures.ran (YieldsList-from_first placed_line lines_left (placed s) c.of.ensures.value) (λ x b q k. search (rules, tests)) in
+    record { value = c.from_residual.ensures ∙ ap (option_map (λ b. b + 1)) (sym c.in_err-before.was) ∙ first_is s c.position.result found }
+
+pub overflow_add-result : goal.overflow_add-result
+overflow_add-result c =
+    let s = c.args.text.now in
+    record { fits = omega (arith, c.in_ok-before.ensures.bound, ap length c.of.ensures.value, all_placed s 0 (lines_of s), fewer_lines s) }
 
 pub returns : goal.returns
-returns c = record { value = sym (none_bad c.args.text.now c.loop-from.n c.loop-from.from c.loop-from-test.false) ∙ c.loop-from.invariant.1 }
+returns c =
+    let s = c.args.text.now in
+    let found = position_from_yields_List formless c.position.new.self _ c.position.result c.position.ensures.ran (YieldsList-from_first placed_line lines_left (placed s) c.of.ensures.value) (λ x b q k. search (rules, tests)) in
+    record { value = ap (option_map (λ b. b + 1)) (sym c.in_ok-before.was) ∙ first_is s c.position.result found }

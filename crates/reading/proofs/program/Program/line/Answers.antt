@@ -1,20 +1,20 @@
-use Rattle.std.proofs.Common.{vec_items, inl, inr, arith}
-use lib.ListN.{length-map}
+use Rattle.std.proofs.Common.{vec_items, sym, ap, ◌∙◌, arith}
+use Rattle.std.proofs.lemmas.Option.{slice_get-map}
+use Rattle.std.specs.List.{slice_get}
+use Rattle.std.specs.Option.{option_map}
 use Rattle.reading.specs.Reading.{said, held_text, held_lines}
-use Rattle.reading.proofs.Counted.{numbered_none, numbered_some}
+use Rattle.reading.proofs.Counted.{gotten, numbered_is}
 use Rattle.reading.proofs.program.Program.line.Goals as goal
-use Rattle.reading.proofs.program.Program.line.Goals.{then-number-eq0-via-then-number-eq0, then-number-eq0-via-else-number-eq0+then-number-len}
-
-pub returns-then-number-eq0 : goal.returns-then-number-eq0
-returns-then-number-eq0 c =
-    let p = c.args.self.now in
-    elim c.then-number-eq0.branch [
-      | then-number-eq0-via-then-number-eq0 w ↦ record { value = numbered_none (held_lines p) c.args.number (inl w.if-number-eq0.true) }
-      | then-number-eq0-via-else-number-eq0+then-number-len w ↦
-          record { value = numbered_none (held_lines p) c.args.number (inr (omega (arith, w.if-number-len.true, w.len.ensures, length-map (vec_items p.lines) (said (held_text p)), p.lines.ok.0))) }
-    ]
 
 pub returns : goal.returns
 returns c =
     let p = c.args.self.now in
-    record { value = numbered_some (said (held_text p)) (vec_items p.lines) c.args.number c.index.result.now (omega (arith, c.if-number-eq0.false)) (omega (arith, c.if-number-len.false, c.len.ensures, p.lines.ok.0)) c.index.ensures }
+    let f = said (held_text p) in
+    let i = c.in_ok-before.before in
+    let got = gotten c.deref.result.now i c.get.result c.get.ensures.lookup.0 c.get.ensures.lookup.1 in
+    record {
+      value =
+          ap (option_map f) (c.copied.ensures ∙ got ∙ ap (λ xs. slice_get xs i) c.deref.ensures.value)
+          ∙ sym (slice_get-map f (vec_items p.lines) i)
+          ∙ sym (numbered_is (held_lines p) c.args.number i (omega (arith, c.in_ok-before.ensures)) (omega (arith, c.in_ok-before.ensures)));
+    }
