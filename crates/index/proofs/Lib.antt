@@ -1,4 +1,2 @@
 pub mod Lines
 pub mod Nearness
-mod Turns
-mod Clamped

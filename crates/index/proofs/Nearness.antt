@@ -1,94 +1,75 @@
--- The nearest of some lines: what one more line at the end changes, and that it is the nearest. Assumes nothing.
---     after_push, up_to_push        the nearest with one more line at the end
---     after_nearest, up_to_nearest  the functions answer as the relations say
-use Rattle.std.proofs.Common.{◌≡◌, ℕ, ◌<◌, ◌≤◌, min, max, Bool, true, false, ltb, leb, List, [], ◌∷◌, ◌++◌, Some, None, Option, sym, refl, ap, ◌∙◌, subst, inl, inr, ⊎_elim, arith}
-use Rattle.std.proofs.lemmas.Bool.{cases_lt, ltb-true, ltb-false, leb-true, leb-false}
-use Rattle.index.specs.Nearest.{lesser, greater, lesser_if, greater_if, nearest_after, nearest_up_to, OneOf, NearestAfter, NearestUpTo}
+-- The nearest of some lines. Assumes nothing.
+--     lines_picked                   the lines under a key that pass a test, as an iterator goes over the entries
+--     after_nearest, up_to_nearest   the functions answer as the relations say
+use Rattle.std.proofs.Common.{◌≡◌, ℕ, ◌≤◌, min, max, Bool, true, false, cond, ◌&&◌, ltb, leb, ◌⊎◌, List, [], ◌∷◌, map, filter, Some, None, Option, MatchOption, sym, refl, ap, ◌∙◌, subst, inl, inr, ⊎_elim, arith}
+use Rattle.std.proofs.lemmas.Bool.{cond_both, cases_lt, cases_Bool, ltb-true, ltb-false, lt-ltb, leb-true, leb-false, le-leb}
+use Rattle.std.specs.List.{fold, reduce}
+use Rattle.index.specs.declared.entry.Entry.{Entry}
+use Rattle.index.specs.Nearest.{nearest_after, nearest_up_to, OneOf, NearestAfter, NearestUpTo}
+use Rattle.index.specs.Entries.{line_if, lines_with}
 
--- the order in which lines are weighed in does not matter
+module _ (p : ℕ → Bool) where
+  pub lines_picked : {K : Type 0} (same : K → K → Bool) (key : K) (es : List (Entry K)) → filter p (lines_with same key es) ≡ map (λ e. e.line) (filter (λ e. p e.line && same e.key key) es)
+  unfolding lines_with
+  lines_picked same key [] = refl
+  lines_picked {K} same key (e ∷ es) = go (p e.line) (same e.key key) refl _ _ (lines_picked same key es)
+    where
+      go : (a b : Bool) → p e.line ≡ a → (ks : List ℕ) (fs : List (Entry K)) → filter p ks ≡ map (λ e. e.line) fs → filter p (line_if b e.line ks) ≡ map (λ e. e.line) (cond (a && b) (e ∷ fs) fs)
+      go true true h ks fs more = (λ j. cond (h j) (e.line ∷ filter p ks) (filter p ks)) ∙ ap (λ js. e.line ∷ js) more
+      go false true h ks fs more = (λ j. cond (h j) (e.line ∷ filter p ks) (filter p ks)) ∙ more
+      go true false h ks fs more = more
+      go false false h ks fs more = more
 
-lesser_swap : (j k : ℕ) (r : Option ℕ) → lesser j (Some (lesser k r)) ≡ lesser k (Some (lesser j r))
-lesser_swap j k None = omega arith
-lesser_swap j k (Some m) = omega arith
-
-lesser_if_swap : (a b : Bool) (j k : ℕ) (r : Option ℕ) → lesser_if a j (lesser_if b k r) ≡ lesser_if b k (lesser_if a j r)
-lesser_if_swap true true j k r = ap Some (lesser_swap j k r)
-lesser_if_swap true false j k r = refl
-lesser_if_swap false true j k r = refl
-lesser_if_swap false false j k r = refl
-
-greater_swap : (j k : ℕ) (r : Option ℕ) → greater j (Some (greater k r)) ≡ greater k (Some (greater j r))
-greater_swap j k None = omega arith
-greater_swap j k (Some m) = omega arith
-
-greater_if_swap : (a b : Bool) (j k : ℕ) (r : Option ℕ) → greater_if a j (greater_if b k r) ≡ greater_if b k (greater_if a j r)
-greater_if_swap true true j k r = ap Some (greater_swap j k r)
-greater_if_swap true false j k r = refl
-greater_if_swap false true j k r = refl
-greater_if_swap false false j k r = refl
-
-module _ (n : ℕ) where
-  pub after_push : (ks : List ℕ) (k : ℕ) → nearest_after n (ks ++ k ∷ []) ≡ lesser_if (ltb n k) k (nearest_after n ks)
-  unfolding nearest_after
-  after_push [] k = refl
-  after_push (j ∷ ks) k = ap (lesser_if (ltb n j) j) (after_push ks k) ∙ lesser_if_swap (ltb n j) (ltb n k) j k (nearest_after n ks)
-
-  pub up_to_push : (ks : List ℕ) (k : ℕ) → nearest_up_to n (ks ++ k ∷ []) ≡ greater_if (leb k n) k (nearest_up_to n ks)
-  unfolding nearest_up_to
-  up_to_push [] k = refl
-  up_to_push (j ∷ ks) k = ap (greater_if (leb j n) j) (up_to_push ks k) ∙ greater_if_swap (leb j n) (leb k n) j k (nearest_up_to n ks)
-
-  -- one more line at the front, where it counts and where it does not
-
-  after_counts : (k : ℕ) (ks : List ℕ) (r : Option ℕ) → n < k → NearestAfter n ks r → NearestAfter n (k ∷ ks) (Some (lesser k r))
+  -- the lines that pass a test are those of the lines that do
+  passed : (j : ℕ) (ks : List ℕ) → OneOf j (filter p ks) → OneOf j ks × (p j ≡ true)
   unfolding OneOf
-  after_counts k ks None h w = (inl refl, h, λ j. ⊎_elim (λ e l. omega arith) (λ o l. omega (arith, w j o)))
-  after_counts k ks (Some m) h w = (
-    ⊎_elim (λ l. inl (omega arith)) (λ l. let e : m ≡ min k m = omega arith in inr (subst (λ x. OneOf x ks) e w.0)) (cases_lt k m),
-    omega (arith, w.1),
-    λ j. ⊎_elim (λ e l. omega arith) (λ o l. omega (arith, w.2 j o l)),
-  )
+  passed j [] = absurd
+  passed j (k ∷ ks) =
+      let more : OneOf j (filter p ks) → OneOf j (k ∷ ks) × (p j ≡ true) = λ o. let w = passed j ks o in (inr w.0, w.1) in
+      cond_both (p k) _ _ (λ js. OneOf j js → OneOf j (k ∷ ks) × (p j ≡ true)) (λ t. ⊎_elim (λ e. (inl e, ap p e ∙ t)) more) (λ f. more)
 
-  after_passes : (k : ℕ) (ks : List ℕ) (r : Option ℕ) → k ≤ n → NearestAfter n ks r → NearestAfter n (k ∷ ks) r
+  passes : (j : ℕ) (ks : List ℕ) → OneOf j ks → p j ≡ true → OneOf j (filter p ks)
   unfolding OneOf
-  after_passes k ks None h w = λ j. ⊎_elim (λ e. omega arith) (w j)
-  after_passes k ks (Some m) h w = (inr w.0, w.1, λ j. ⊎_elim (λ e l. omega arith) (w.2 j))
+  passes j [] o t = absurd o
+  passes j (k ∷ ks) o t =
+      cond_both (p k) _ _ (OneOf j) (λ w. ⊎_elim inl (λ o. inr (passes j ks o t)) o)
+      (λ f. ⊎_elim (λ e. absurd (let z : true ≡ false = sym t ∙ ap p e ∙ f in let one : ◌≡◌ {A = ℕ} 0 1 = cc in omega arith)) (λ o. passes j ks o t) o)
 
-  up_to_counts : (k : ℕ) (ks : List ℕ) (r : Option ℕ) → k ≤ n → NearestUpTo n ks r → NearestUpTo n (k ∷ ks) (Some (greater k r))
+-- f picks one of two lines, and R holds between what it picks and both
+module _ (f : ℕ → ℕ → ℕ) (R : ℕ → ℕ → Type 0) (picks : (k j : ℕ) → (f k j ≡ k) ⊎ (f k j ≡ j)) (itself : (k : ℕ) → R k k) (both : (r k j : ℕ) → R r (f k j) → R r k × R r j) where
+  picked : (k : ℕ) (ks : List ℕ) → OneOf (fold f k ks) (k ∷ ks) × ((j : ℕ) → OneOf j (k ∷ ks) → R (fold f k ks) j)
   unfolding OneOf
-  up_to_counts k ks None h w = (inl refl, h, λ j. ⊎_elim (λ e l. omega arith) (λ o l. omega (arith, w j o)))
-  up_to_counts k ks (Some m) h w = (
-    ⊎_elim (λ l. let e : m ≡ max k m = omega arith in inr (subst (λ x. OneOf x ks) e w.0)) (λ l. inl (omega arith)) (cases_lt k m),
-    omega (arith, w.1),
-    λ j. ⊎_elim (λ e l. omega arith) (λ o l. omega (arith, w.2 j o l)),
-  )
+  picked k [] = (inl refl, λ j. ⊎_elim (λ e. subst (R k) (sym e) (itself k)) absurd)
+  picked k (m ∷ ks) =
+      let w = picked (f k m) ks in
+      let two = both _ k m (w.1 (f k m) (inl refl)) in (
+        ⊎_elim (λ e. ⊎_elim (λ h. inl (e ∙ h)) (λ h. inr (inl (e ∙ h))) (picks k m)) (λ o. inr (inr o)) w.0,
+        λ j. ⊎_elim (λ e. subst (R _) (sym e) two.0) (⊎_elim (λ e. subst (R _) (sym e) two.1) (λ o. w.1 j (inr o))),
+      )
 
-  up_to_passes : (k : ℕ) (ks : List ℕ) (r : Option ℕ) → n < k → NearestUpTo n ks r → NearestUpTo n (k ∷ ks) r
+  found : (p : ℕ → Bool) (ks : List ℕ) → MatchOption (reduce f (filter p ks)) ((j : ℕ) → OneOf j ks → p j ≡ false) (λ k. OneOf k ks × (p k ≡ true) × ((j : ℕ) → OneOf j ks → p j ≡ true → R k j))
   unfolding OneOf
-  up_to_passes k ks None h w = λ j. ⊎_elim (λ e. omega arith) (w j)
-  up_to_passes k ks (Some m) h w = (inr w.0, w.1, λ j. ⊎_elim (λ e l. omega arith) (w.2 j))
+  found p ks = go (filter p ks) refl
+    where
+      go : (fs : List ℕ) → filter p ks ≡ fs → MatchOption (reduce f fs) ((j : ℕ) → OneOf j ks → p j ≡ false) (λ k. OneOf k ks × (p k ≡ true) × ((j : ℕ) → OneOf j ks → p j ≡ true → R k j))
+      go [] e = λ j o. ⊎_elim (λ t. absurd (subst (OneOf j) e (passes p j ks o t))) (λ t. t) (cases_Bool (p j))
+      go (k ∷ fs) e =
+          let w = picked k fs in
+          let one = passed p _ ks (subst (OneOf _) (sym e) w.0) in
+          (one.0, one.1, λ j o t. w.1 j (subst (OneOf j) e (passes p j ks o t)))
 
-  after_either : (b : Bool) (k : ℕ) (ks : List ℕ) (r : Option ℕ) → ltb n k ≡ b → NearestAfter n ks r → NearestAfter n (k ∷ ks) (lesser_if b k r)
-  after_either true k ks r h w = after_counts k ks r (ltb-true n k h) w
-  after_either false k ks r h w = after_passes k ks r (ltb-false n k h) w
+pub after_nearest : (n : ℕ) (ks : List ℕ) → NearestAfter n ks (nearest_after n ks)
+unfolding nearest_after
+after_nearest n ks = go (reduce min (filter (ltb n) ks)) (found min (λ k j. k ≤ j) (λ k j. ⊎_elim (λ l. inl (omega arith)) (λ l. inr (omega arith)) (cases_lt k j)) (λ k. omega arith) (λ r k j h. (omega arith, omega arith)) (ltb n) ks)
+  where
+    go : (r : Option ℕ) → MatchOption r ((j : ℕ) → OneOf j ks → ltb n j ≡ false) (λ k. OneOf k ks × (ltb n k ≡ true) × ((j : ℕ) → OneOf j ks → ltb n j ≡ true → k ≤ j)) → NearestAfter n ks r
+    go None h = λ j o. ltb-false n j (h j o)
+    go (Some k) h = (h.0, ltb-true n k h.1, λ j o l. h.2 j o (lt-ltb n j l))
 
-  up_to_either : (b : Bool) (k : ℕ) (ks : List ℕ) (r : Option ℕ) → leb k n ≡ b → NearestUpTo n ks r → NearestUpTo n (k ∷ ks) (greater_if b k r)
-  up_to_either true k ks r h w = up_to_counts k ks r (leb-true k n h) w
-  up_to_either false k ks r h w = up_to_passes k ks r (leb-false k n h) w
-
-  pub after_nearest : (ks : List ℕ) → NearestAfter n ks (nearest_after n ks)
-  unfolding nearest_after OneOf
-  after_nearest [] = λ j o. absurd o
-  after_nearest (k ∷ ks) = after_either (ltb n k) k ks (nearest_after n ks) refl (after_nearest ks)
-
-  pub up_to_nearest : (ks : List ℕ) → NearestUpTo n ks (nearest_up_to n ks)
-  unfolding nearest_up_to OneOf
-  up_to_nearest [] = λ j o. absurd o
-  up_to_nearest (k ∷ ks) = up_to_either (leb k n) k ks (nearest_up_to n ks) refl (up_to_nearest ks)
-
-  -- so does each answer that is the same as the function's
-  pub after_says : (ks : List ℕ) (r : Option ℕ) → r ≡ nearest_after n ks → NearestAfter n ks r
-  after_says ks r e = subst (NearestAfter n ks) (sym e) (after_nearest ks)
-
-  pub up_to_says : (ks : List ℕ) (r : Option ℕ) → r ≡ nearest_up_to n ks → NearestUpTo n ks r
-  up_to_says ks r e = subst (NearestUpTo n ks) (sym e) (up_to_nearest ks)
+pub up_to_nearest : (n : ℕ) (ks : List ℕ) → NearestUpTo n ks (nearest_up_to n ks)
+unfolding nearest_up_to
+up_to_nearest n ks = go (reduce max (filter (λ k. leb k n) ks)) (found max (λ k j. j ≤ k) (λ k j. ⊎_elim (λ l. inr (omega arith)) (λ l. inl (omega arith)) (cases_lt k j)) (λ k. omega arith) (λ r k j h. (omega arith, omega arith)) (λ k. leb k n) ks)
+  where
+    go : (r : Option ℕ) → MatchOption r ((j : ℕ) → OneOf j ks → leb j n ≡ false) (λ k. OneOf k ks × (leb k n ≡ true) × ((j : ℕ) → OneOf j ks → leb j n ≡ true → j ≤ k)) → NearestUpTo n ks r
+    go None h = λ j o. leb-false j n (h j o)
+    go (Some k) h = (h.0, leb-true k n h.1, λ j o l. h.2 j o (le-leb j n l))

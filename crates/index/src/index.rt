@@ -1,15 +1,15 @@
 //! The index: entries at the front of a room that its owner lends.
-ghost use Rattle.std.specs.Prelude.{◌≡◌, length, take};
+ghost use Rattle.std.specs.Prelude.{◌≡◌};
 ghost use Rattle.index.specs.Nearest.{nearest_after, nearest_up_to, NearestAfter, NearestUpTo};
-ghost use Rattle.index.specs.Entries.{lines_with, Entered};
+ghost use Rattle.index.specs.Entries.{entries, lines_with, Entered, SameRoom};
 
 use crate::entry::{Entry, Full};
 use crate::key::Key;
-use crate::nearest::{nearest_after, nearest_up_to};
 
 /// The first `used` entries of a lent room.
+// Both stay: no memory is asked for, so the room is its owner's. A model would hide which loan the room is, and clauses name it.
 #[derive(Drop)]
-pub struct Index<'a, K: Key> {
+pub struct Index<'a, K> {
     room: &'a mut [Entry<K>],
     used: usize,
 }
@@ -26,9 +26,8 @@ impl<'a, K: Key> Index<'a, K> {
 
     /// Enters a line under a key, unless the room is full.
     pub fn enter(&mut self, key: K, line: usize) -> Result<(), Full>
-        ensures entered { Entered self.old.room.now self.old.used (record { key = key; line = line }) self.new.room.now self.new.used result }
-        ensures length { length self.new.room.now ≡ length self.old.room.now }
-        ensures lent { self.new.room.ghost_name ≡ self.old.room.ghost_name }
+        ensures entered { Entered self.old (record { key = key; line = line }) self.new result }
+        ensures same { SameRoom self.old self.new }
     {
         if self.used >= self.room.len() {
             return Err(Full);
@@ -40,26 +39,32 @@ impl<'a, K: Key> Index<'a, K> {
 
     /// The nearest line above `line` that was entered under the key.
     pub fn after(&self, text: &[u8], key: &K, line: usize) -> Option<usize>
-        ensures value { result ≡ nearest_after line (lines_with (K.same text.now) key.now (take self.now.used self.now.room.now)) }
-        ensures nearest { NearestAfter line (lines_with (K.same text.now) key.now (take self.now.used self.now.room.now)) result }
+        ensures value { result ≡ nearest_after line (lines_with (K.same text.now) key.now (entries self.now)) }
+        ensures nearest { NearestAfter line (lines_with (K.same text.now) key.now (entries self.now)) result }
     {
-        nearest_after(self.entries(), text, key, line)
+        self.entries()
+            .iter()
+            .filter(|e| e.line > line && e.key.is(key, text))
+            .map(|e| e.line)
+            .min()
     }
 
     /// The nearest line at or before `line` that was entered under the key.
     pub fn up_to(&self, text: &[u8], key: &K, line: usize) -> Option<usize>
-        ensures value { result ≡ nearest_up_to line (lines_with (K.same text.now) key.now (take self.now.used self.now.room.now)) }
-        ensures nearest { NearestUpTo line (lines_with (K.same text.now) key.now (take self.now.used self.now.room.now)) result }
+        ensures value { result ≡ nearest_up_to line (lines_with (K.same text.now) key.now (entries self.now)) }
+        ensures nearest { NearestUpTo line (lines_with (K.same text.now) key.now (entries self.now)) result }
     {
-        nearest_up_to(self.entries(), text, key, line)
+        self.entries()
+            .iter()
+            .filter(|e| e.line <= line && e.key.is(key, text))
+            .map(|e| e.line)
+            .max()
     }
 
     /// The entries so far.
     fn entries(&self) -> &[Entry<K>]
-        ensures value { result.now ≡ take self.now.used self.now.room.now }
+        ensures value { result.now ≡ entries self.now }
     {
-        let room = &*self.room;
-        let end = self.used.min(room.len());
-        &room[0..end]
+        self.room.get(..self.used).unwrap_or(self.room)
     }
 }

@@ -1,7 +1,5 @@
 //! What a line is looked for by: a line's N number, or the name of a label.
-ghost use Rattle.std.specs.Prelude.{◌≡◌, ℕ, Bool, List, map, take, drop, ◌==◌};
-ghost use Rattle.std.specs.Char.{to_ascii_lowercase};
-ghost use Rattle.std.specs.Str.{bytes_eq};
+ghost use Rattle.std.specs.Prelude.{◌≡◌, ℕ, Bool, List, take, drop, ◌==◌};
 ghost use Rattle.index.specs.Entries.{same_name};
 
 use forms::said::Place;
@@ -30,7 +28,7 @@ impl Key for Place {
     ghost same = { λ text a b. same_name text a b };
 
     fn is(&self, other: &Place, text: &[u8]) -> bool {
-        same_letters(bytes_at(text, self), bytes_at(text, other))
+        bytes_at(text, self).eq_ignore_ascii_case(bytes_at(text, other))
     }
 }
 
@@ -38,14 +36,6 @@ impl Key for Place {
 fn bytes_at<'t>(text: &'t [u8], place: &Place) -> &'t [u8]
     ensures value { result.now ≡ take place.now.length (drop place.now.from text.now) }
 {
-    let from = place.from.min(text.len());
-    let end = from + place.length.min(text.len() - from);
-    &text[from..end]
-}
-
-/// Whether two names are the same, whatever the case of their letters.
-fn same_letters(a: &[u8], b: &[u8]) -> bool
-    ensures value { result ≡ bytes_eq (map to_ascii_lowercase a.now) (map to_ascii_lowercase b.now) }
-{
-    a.eq_ignore_ascii_case(b)
+    let rest = text.get(place.from..).unwrap_or(&[]);
+    rest.get(..place.length).unwrap_or(rest)
 }

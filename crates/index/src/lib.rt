@@ -4,4 +4,3 @@
 pub mod entry;
 pub mod index;
 pub mod key;
-mod nearest;

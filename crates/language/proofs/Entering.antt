@@ -1,41 +1,49 @@
 -- Entering targets into rooms: one target, one line, and one line after the other. Assumes nothing.
---     put_added, put_kept    what `Index::enter` says, as a target that enters a room or finds no place
+--     put_is                 what `Index::enter` says, as a target that enters a room or finds no place
 --     lines_on, lines_stop, lines_end    a turn of entering line by line, the turn that is refused, and the end
+--     same_on                the rooms stay the same, from turn to turn
 --     all_numbers, all_labels    where every target found a place, each of them was entered
 --     whole              the same where nothing was entered before
-use Rattle.std.proofs.Common.{◌≡◌, ℕ, ◌+◌, ◌-◌, ◌<◌, List, [], ◌∷◌, ◌++◌, length, take, drop, Some, None, Ok, Err, Option, sym, refl, ap, ◌∙◌, arith}
+use Rattle.std.proofs.Common.{◌≡◌, ℕ, ◌+◌, ◌-◌, ◌<◌, List, [], ◌∷◌, ◌++◌, length, take, drop, Some, None, Ok, Err, Option, Result, MatchResult, IsErrAnd, sym, refl, ap, ◌∙◌, arith}
 use Rattle.std.proofs.lemmas.List.{append_assoc, append-nil, take_more_set, drop_more, drop-set-lt, drop_all}
 use Rattle.std.specs.Option.{option_map}
 use Rattle.motions.specs.declared.refusal.Refusal.{Refusal}
 use Rattle.forms.specs.declared.said.Place.{Place}
 use Rattle.index.specs.declared.entry.Entry.{Entry}
-use Rattle.index.specs.Entries.{Added, Kept}
+use Rattle.index.specs.declared.entry.Full.{Full}
+use Rattle.index.specs.declared.index.Index.{Index}
+use Rattle.index.specs.Entries.{entries, Added, Kept, Entered}
 use Rattle.rules.specs.Targets.{Said}
-use Rattle.language.specs.Indexing.{place_of, entry_if, numbers_of, labels_of, Room, room_of, Put, put_before, put, Rooms, put_number, put_label, unless_in, unless_full, enter_line, enter_lines, enter_all, started, answer, Whole}
-use Rattle.language.proofs.Matching.{numbers_in_lem, labels_in_lem}
+use Rattle.language.specs.declared.targets.Targets.{Targets}
+use Rattle.language.specs.Indexing.{place_of, entry_if, numbers_of, labels_of, Room, room_of, Put, put_before, put, Rooms, put_number, put_label, unless_in, unless_full, enter_line, enter_lines, enter_all, started, no_place, answer, rooms_of, Left, SameRooms, Whole}
 
 -- One target
 
-module _ {K : Type 0} (room : List (Entry K)) (used : ℕ) (o : Option K) (key : K) (line : ℕ) (is : o ≡ Some key) (after : List (Entry K)) (n : ℕ) where
+module _ {K : Type 0} (i : Index K) (o : Option K) (key : K) (line : ℕ) (is : o ≡ Some key) (k : Index K) where
   abbrev entry : Entry K
   entry = record { key = key; line = line }
 
-  by_rest : (fs : List (Entry K)) → drop used room ≡ fs → put o line (room_of room used) ≡ put_before entry (take used room) fs
-  by_rest fs h = ap (λ t. put t line (room_of room used)) is ∙ ap (put_before entry (take used room)) h
+  by_rest : (fs : List (Entry K)) → drop i.used i.room.now ≡ fs → put o line (room_of i) ≡ put_before entry (entries i) fs
+  by_rest fs h = ap (λ t. put t line (room_of i)) is ∙ ap (put_before entry (entries i)) h
 
-  pub put_added : Added room used entry after n → put o line (room_of room used) ≡ record { room = room_of after n; full = None }
+  put_added : Added i entry k → put o line (room_of i) ≡ record { room = room_of k; full = None }
   put_added a =
-      let free : used < length room = a.free in
-      let front : take n after ≡ take used room ++ entry ∷ [] = (λ j. take (a.counted j) (a.placed j)) ∙ take_more_set room used entry free in
-      let rest : drop n after ≡ drop (used + 1) room = (λ j. drop (a.counted j) (a.placed j)) ∙ drop-set-lt (used + 1) room used entry (omega arith) in
-      by_rest _ (drop_more room used entry free) ∙ (λ j. record { room = record { entered = sym front j; rest = sym rest j }; full = None })
+      let front : entries k ≡ entries i ++ entry ∷ [] = (λ j. take (a.counted j) (a.placed j)) ∙ take_more_set i.room.now i.used entry a.free in
+      let rest : drop k.used k.room.now ≡ drop (i.used + 1) i.room.now = (λ j. drop (a.counted j) (a.placed j)) ∙ drop-set-lt (i.used + 1) i.room.now i.used entry (omega arith) in
+      by_rest _ (drop_more i.room.now i.used entry a.free) ∙ (λ j. record { room = record { entered = sym front j; rest = sym rest j }; full = None })
 
-  pub put_kept : Kept room used after n → put o line (room_of room used) ≡ record { room = room_of after n; full = Some line }
+  put_kept : Kept i k → put o line (room_of i) ≡ record { room = room_of k; full = Some line }
   put_kept a =
-      let none : drop used room ≡ [] = drop_all used room a.full in
-      let front : take used room ≡ take n after = λ j. take (sym a.used_stays j) (sym a.room_stays j) in
-      let rest : [] ≡ drop n after = sym none ∙ (λ j. drop (sym a.used_stays j) (sym a.room_stays j)) in
+      let none : drop i.used i.room.now ≡ [] = drop_all i.used i.room.now a.full in
+      let front : entries i ≡ entries k = λ j. take (sym a.used_stays j) (sym a.room_stays j) in
+      let rest : [] ≡ drop k.used k.room.now = sym none ∙ (λ j. drop (sym a.used_stays j) (sym a.room_stays j)) in
       by_rest [] none ∙ (λ j. record { room = record { entered = front j; rest = rest j }; full = Some line })
+
+  -- the same of a call of `enter` whose refusal, told by P, is that of the line
+  pub put_is : (P : Full → Refusal → Type 0) → ((f : Full) (e : Refusal) → P f e → e ≡ no_place line) → (r : Result (Unit {0}) Full) (q : Result (Unit {0}) Refusal) → Entered i entry k r → MatchResult r (λ u. q ≡ Ok u) (λ f. IsErrAnd q (P f)) → record {room : room_of k ≡ (put o line (room_of i)).room; answer : q ≡ answer (put o line (room_of i)).full}
+  put_is P why (Ok u) q a h = let e = put_added a in record { room = sym (ap (λ p. p.room) e); answer = h ∙ sym (ap (λ p. answer p.full) e) }
+  put_is P why (Err f) (Ok u) a h = absurd h
+  put_is P why (Err f) (Err d) a h = let e = put_kept a in record { room = sym (ap (λ p. p.room) e); answer = ap (λ x. Err x) (why f d h) ∙ sym (ap (λ p. answer p.full) e) }
 
 -- what a target adds where it finds a place
 put_entered : {K : Type 0} (o : Option K) (k : ℕ) (es fs : List (Entry K)) → (put o k (record { entered = es; rest = fs })).full ≡ None → (put o k (record { entered = es; rest = fs })).room.entered ≡ es ++ entry_if o k []
@@ -113,19 +121,22 @@ module _ (k : ℕ) (l : Said) (ls : List Said) (r : Rooms) where
   stops n h = enter_one k l ls r ∙ ap (λ o. unless_in o (enter_lines (k + 1) ls) (enter_line k l r)) h
 
 -- a turn at the line n of the lines ls
-module _ (ls : List Said) (n : ℕ) (l : Said) (r : Rooms) (here : drop (n - 1) ls ≡ l ∷ drop n ls) where
-  pub lines_on : (a : Room ℕ) (b : Room Place) → a ≡ (enter_line n l r).numbers → b ≡ (enter_line n l r).labels → Ok tt ≡ answer (enter_line n l r).full → enter_lines (n + 1) (drop (n + 1 - 1) ls) (started a b) ≡ enter_lines n (drop (n - 1) ls) r
-  lines_on a b p q ok =
-      let none = answer_ok (enter_line n l r).full ok in
+module _ (ls : List Said) (n : ℕ) (l : Said) (r : Rooms) (here : drop (n - 1) ls ≡ l ∷ drop n ls) (t : Targets) where
+  pub lines_on : Left t (Ok tt) (enter_line n l r) → enter_lines (n + 1) (drop (n + 1 - 1) ls) (rooms_of t) ≡ enter_lines n (drop (n - 1) ls) r
+  lines_on w =
+      let none = answer_ok (enter_line n l r).full w.answer in
       let k : n + 1 - 1 ≡ n = omega arith in
-      let after : started a b ≡ enter_line n l r = λ j. record { numbers = p j; labels = q j; full = sym none j } in
+      let after : rooms_of t ≡ enter_line n l r = λ j. record { numbers = w.numbers j; labels = w.labels j; full = sym none j } in
       (λ j. enter_lines (n + 1) (drop (k j) ls) (after j)) ∙ sym (goes_on n l (drop n ls) r none) ∙ sym (ap (λ xs. enter_lines n xs r) here)
 
-  pub lines_stop : (e : Refusal) → Err e ≡ answer (enter_line n l r).full → enter_line n l r ≡ enter_lines n (drop (n - 1) ls) r
-  lines_stop e err = let s = answer_err (enter_line n l r).full e err in sym (ap (λ xs. enter_lines n xs r) here ∙ stops n l (drop n ls) r s.0 s.1)
+  pub lines_stop : (e : Refusal) → Left t (Err e) (enter_line n l r) → enter_line n l r ≡ enter_lines n (drop (n - 1) ls) r
+  lines_stop e w = let s = answer_err (enter_line n l r).full e w.answer in sym (ap (λ xs. enter_lines n xs r) here ∙ stops n l (drop n ls) r s.0 s.1)
 
 pub lines_end : (ls : List Said) (n : ℕ) (r : Rooms) → drop (n - 1) ls ≡ [] → r ≡ enter_lines n (drop (n - 1) ls) r
 lines_end ls n r h = sym (ap (λ xs. enter_lines n xs r) h ∙ enter_none n r)
+
+pub same_on : (t u v : Targets) → SameRooms t u → SameRooms u v → SameRooms t v
+same_on t u v p q = ((q.0.0 ∙ p.0.0, q.0.1 ∙ p.0.1), (q.1.0 ∙ p.1.0, q.1.1 ∙ p.1.1))
 
 entry_before : {K : Type 0} (o : Option K) (k : ℕ) (es : List (Entry K)) → entry_if o k [] ++ es ≡ entry_if o k es
 entry_before None k es = refl
@@ -153,9 +164,10 @@ all_labels k (l ∷ ls) r h =
     ∙ append_assoc r.labels.entered (entry_if (option_map place_of l.label) k []) (labels_of (k + 1) ls)
     ∙ ap (λ es. r.labels.entered ++ es) (entry_before (option_map place_of l.label) k (labels_of (k + 1) ls))
 
-pub whole : (ls : List Said) (n : Room ℕ) (b : Room Place) → n.entered ≡ [] → b.entered ≡ [] → (after : Rooms) → after ≡ enter_all ls n b → after.full ≡ None → Whole ls after.numbers.entered after.labels.entered
-whole ls n b p q after is ok =
-    let full : (enter_all ls n b).full ≡ None = sym (ap (λ x. x.full) is) ∙ ok in
-    let ns : after.numbers.entered ≡ numbers_of 1 ls = ap (λ x. x.numbers.entered) is ∙ all_numbers 1 ls (started n b) full ∙ ap (λ es. es ++ numbers_of 1 ls) p in
-    let bs : after.labels.entered ≡ labels_of 1 ls = ap (λ x. x.labels.entered) is ∙ all_labels 1 ls (started n b) full ∙ ap (λ es. es ++ labels_of 1 ls) q in
-    record { numbers = ns; labels = bs; numbered = numbers_in_lem ls after.numbers.entered ns; labelled = labels_in_lem ls after.labels.entered bs }
+pub whole : (ls : List Said) (n : Room ℕ) (b : Room Place) → n.entered ≡ [] → b.entered ≡ [] → (t : Targets) → rooms_of t ≡ enter_all ls n b → Whole ls t
+whole ls n b p q t is =
+    let full : (enter_all ls n b).full ≡ None = sym (ap (λ x. x.full) is) in
+    record {
+      numbers = ap (λ x. x.numbers.entered) is ∙ all_numbers 1 ls (started n b) full ∙ ap (λ es. es ++ numbers_of 1 ls) p;
+      labels = ap (λ x. x.labels.entered) is ∙ all_labels 1 ls (started n b) full ∙ ap (λ es. es ++ labels_of 1 ls) q;
+    }

@@ -1,8 +1,6 @@
--- The entries of a program's targets: when entries are those, and which lines they give to a target. Assumes nothing.
---     numbers_in_lem, labels_in_lem  the entries of the targets pass the test of being those
---     numbers_are, labels_are    entries that pass it are those
+-- The entries of a program's targets: which lines they give to a target. Assumes nothing.
 --     numbers_bear, labels_bear  a target is looked up through its entries as on the lines
---     number_lines, label_lines  the same of entries that pass the test
+--     number_lines, label_lines  the same through the indexes that hold them
 --     held_read                  the labels of the lines that a program holds stand in the text at their places
 use Rattle.std.proofs.Common.{◌≡◌, ℕ, ◌+◌, Bool, true, eqb, List, [], ◌∷◌, map, length, take, Some, None, vec_items, Option, sym, refl, ap, ◌∙◌, arith}
 use Rattle.std.proofs.lemmas.Slice.Eq.{bytes_eq-Decides}
@@ -15,60 +13,14 @@ use Rattle.forms.specs.Model.{name_at}
 use Rattle.forms.specs.declared.said.Place.{Place}
 use Rattle.forms.specs.declared.said.Target.TheVariants.{Label, Number}
 use Rattle.index.specs.declared.entry.Entry.{Entry}
-use Rattle.index.specs.Entries.{line_if, lines_with, same_name}
+use Rattle.index.specs.Entries.{entries, line_if, lines_with, same_name}
 use Rattle.rules.specs.Targets.{Said, has_number, labelled, bearers}
 use Rattle.reading.specs.declared.program.Held.{Held}
 use Rattle.reading.specs.declared.program.Program.{Program}
 use Rattle.reading.specs.Reading.{said, held_text, held_lines}
-use Rattle.language.specs.Indexing.{place_of, entry_if, numbers_of, labels_of, same_place, same_entries, numbers_in, labels_in}
+use Rattle.language.specs.declared.targets.Targets.{Targets}
+use Rattle.language.specs.Indexing.{place_of, entry_if, numbers_of, labels_of, Whole}
 use Rattle.language.proofs.Cut.{name_cut}
-
--- Entries that are the same
-
-module _ {K : Type 0} (same : K → K → Bool) (itself : (a : K) → same a a ≡ true) (equal : (a b : K) → same a b ≡ true → a ≡ b) where
-  same_itself : (es : List (Entry K)) → same_entries same es es ≡ true
-  unfolding same_entries
-  same_itself [] = refl
-  same_itself (e ∷ es) = and_from _ _ (itself e.key) (and_from _ _ (eq-eqb e.line e.line refl) (same_itself es))
-
-  pub same_equal : (es fs : List (Entry K)) → same_entries same es fs ≡ true → es ≡ fs
-  unfolding same_entries
-  same_equal [] [] h = refl
-  same_equal [] (f ∷ fs) h = absurd (let z : ◌≡◌ {A = ℕ} 0 1 = cc in omega arith)
-  same_equal (e ∷ es) [] h = absurd (let z : ◌≡◌ {A = ℕ} 0 1 = cc in omega arith)
-  same_equal (e ∷ es) (f ∷ fs) h =
-      let one = and_parts _ _ h in
-      let two = and_parts _ _ one.1 in
-      let key = equal e.key f.key one.0 in
-      let line = eqb-true e.line f.line two.0 in
-      let rest = same_equal es fs two.1 in
-      λ j. record { key = key j; line = line j } ∷ rest j
-
-  pub equal_same : (es fs : List (Entry K)) → es ≡ fs → same_entries same es fs ≡ true
-  equal_same es fs e = ap (λ xs. same_entries same xs fs) e ∙ same_itself fs
-
-place_itself : (a : Place) → same_place a a ≡ true
-place_itself a = and_from _ _ (eq-eqb a.from a.from refl) (eq-eqb a.length a.length refl)
-
-place_equal : (a b : Place) → same_place a b ≡ true → a ≡ b
-place_equal a b h =
-    let two = and_parts _ _ h in
-    let from = eqb-true a.from b.from two.0 in
-    let long = eqb-true a.length b.length two.1 in
-    λ j. record { from = from j; length = long j }
-
-module _ (ls : List Said) where
-  pub numbers_in_lem : (es : List (Entry ℕ)) → es ≡ numbers_of 1 ls → numbers_in ls es ≡ true
-  numbers_in_lem es e = equal_same (λ a b. eqb a b) (λ a. eq-eqb a a refl) eqb-true es (numbers_of 1 ls) e
-
-  pub labels_in_lem : (es : List (Entry Place)) → es ≡ labels_of 1 ls → labels_in ls es ≡ true
-  labels_in_lem es e = equal_same same_place place_itself place_equal es (labels_of 1 ls) e
-
-  pub numbers_are : (es : List (Entry ℕ)) → numbers_in ls es ≡ true → es ≡ numbers_of 1 ls
-  numbers_are es h = same_equal (λ a b. eqb a b) (λ a. eq-eqb a a refl) eqb-true es (numbers_of 1 ls) h
-
-  pub labels_are : (es : List (Entry Place)) → labels_in ls es ≡ true → es ≡ labels_of 1 ls
-  labels_are es h = same_equal same_place place_itself place_equal es (labels_of 1 ls) h
 
 -- The lines that bear a target
 
@@ -118,11 +70,11 @@ module _ (text : List ℕ) where
   held_read [] = tt
   held_read (h ∷ hs) = (label_reads h.end h.line.label, held_read hs)
 
--- Looking a target up through the entries that a program's indexes hold
+-- Looking a target up through the indexes of a program's targets
 
-module _ (p : Program) where
-  pub number_lines : (es : List (Entry ℕ)) → numbers_in (held_lines p) es ≡ true → (n : ℕ) → lines_with (λ a b. eqb a b) n es ≡ bearers (Number n) 1 (held_lines p)
-  number_lines es h n = ap (lines_with (λ a b. eqb a b) n) (numbers_are (held_lines p) es h) ∙ numbers_bear n 1 (held_lines p)
+module _ (p : Program) (t : Targets) (w : Whole (held_lines p) t) where
+  pub number_lines : (n : ℕ) → lines_with (λ a b. eqb a b) n (entries t.numbers) ≡ bearers (Number n) 1 (held_lines p)
+  number_lines n = ap (lines_with (λ a b. eqb a b) n) w.numbers ∙ numbers_bear n 1 (held_lines p)
 
-  pub label_lines : (es : List (Entry Place)) → labels_in (held_lines p) es ≡ true → (q : Place) → lines_with (same_name (held_text p)) q es ≡ bearers (Label (name_at (held_text p) q)) 1 (held_lines p)
-  label_lines es h q = ap (lines_with (same_name (held_text p)) q) (labels_are (held_lines p) es h) ∙ labels_bear (held_text p) q 1 (held_lines p) (held_read (held_text p) (vec_items p.lines))
+  pub label_lines : (q : Place) → lines_with (same_name (held_text p)) q (entries t.labels) ≡ bearers (Label (name_at (held_text p) q)) 1 (held_lines p)
+  label_lines q = ap (lines_with (same_name (held_text p)) q) w.labels ∙ labels_bear (held_text p) q 1 (held_lines p) (held_read (held_text p) (vec_items p.lines))

@@ -4,7 +4,8 @@
 --     numbers_of k ls, labels_of k ls    the entries of the N numbers, and of the labels, of the lines ls, in their order,
 --                        where the first of them has the number k
 --     Room K             a room of entries: those that were entered, and the rest, untouched
---     room_of es n       the room es, of which the first n entries were entered
+--     room_of i          the room of the index i
+--     free es            the room es, in which nothing was entered yet
 --     Put K              a room after a target of a line was to enter it, and the number of that line where no place was left
 --     put o k r          the target o of line k, if there is one, takes the first place of the rest of the room r
 --     Rooms              the room of the N numbers and that of the labels, and the line whose target found no place, if one did
@@ -14,22 +15,25 @@
 --     enter_lines k ls   enters the targets of the lines ls, line by line, where the first has the number k
 --     started n b        the rooms n and b, where every target has found a place so far
 --     enter_all ls n b   enters the targets of all lines of a program into the rooms n and b
+--     rooms_of t         the rooms of the targets t, where every target has found a place so far
+--     Left t r after     the rooms of the targets t are those of after, and r answers for them
+--     SameRooms t u      the rooms are lent by the same owners, and as long as before
 --     no_place k         the refusal of line k, whose target found no place
 --     answer o           what is answered: that refusal where o holds such a line
 --     nearest_by forward n ks    the nearest of the lines ks: above n, or else up to n
---     same_entries same es fs    the entries es are fs, where keys are compared by same
---     same_place a b     the places are the same
---     numbers_in ls es, labels_in ls es    es are the entries of the N numbers, or of the labels, of the lines ls of a program
---     Whole ls ns bs     ns and bs are the entries of all N numbers and of all labels of the lines ls of a program
-use Rattle.std.specs.Prelude.{◌≡◌, ℕ, ◌+◌, Bool, true, false, ◌&&◌, List, [], ◌∷◌, ◌++◌, length, take, drop, Some, None, Ok, Err, Option, Result, ◌==◌, nat_eq}
+--     Whole ls t         the indexes of t hold the N numbers and the labels of the lines ls of a program, and no others
+use Rattle.std.specs.Prelude.{◌≡◌, ℕ, ◌+◌, Bool, true, false, List, [], ◌∷◌, ◌++◌, length, drop, Some, None, Ok, Err, Option, Result}
 use Rattle.std.specs.Option.{option_map}
 use Rattle.motions.specs.declared.refusal.Reason.TheVariants.{IndexRoom}
 use Rattle.motions.specs.declared.refusal.Refusal.{Refusal}
 use Rattle.forms.specs.Forms.{Named}
 use Rattle.forms.specs.declared.said.Place.{Place}
 use Rattle.index.specs.declared.entry.Entry.{Entry}
+use Rattle.index.specs.declared.index.Index.{Index}
+use Rattle.index.specs.Entries.{entries, SameRoom}
 use Rattle.index.specs.Nearest.{nearest_after, nearest_up_to}
 use Rattle.rules.specs.Targets.{Said}
+use Rattle.language.specs.declared.targets.Targets.{Targets}
 
 -- The targets of some lines
 
@@ -54,8 +58,11 @@ pub record Room (K : Type 0) : Type 0 where
   pub entered : List (Entry K)
   pub rest : List (Entry K)
 
-abbrev pub room_of : {K : Type 0} → List (Entry K) → ℕ → Room K
-room_of es n = record { entered = take n es; rest = drop n es }
+abbrev pub room_of : {K : Type 0} → Index K → Room K
+room_of i = record { entered = entries i; rest = drop i.used i.room.now }
+
+abbrev pub free : {K : Type 0} → List (Entry K) → Room K
+free es = record { entered = []; rest = es }
 
 pub record Put (K : Type 0) : Type 0 where
   pub room : Room K
@@ -108,29 +115,25 @@ abbrev pub answer : Option ℕ → Result (Unit {0}) Refusal
 answer None = Ok tt
 answer (Some k) = Err (no_place k)
 
--- What two indexes hold, and looking a line up
+-- Two indexes
+
+abbrev pub rooms_of : Targets → Rooms
+rooms_of t = started (room_of t.numbers) (room_of t.labels)
+
+pub record Left (t : Targets) (r : Result (Unit {0}) Refusal) (after : Rooms) : Type 0 where
+  pub numbers : room_of t.numbers ≡ after.numbers
+  pub labels : room_of t.labels ≡ after.labels
+  pub answer : r ≡ answer after.full
+
+abbrev pub SameRooms : Targets → Targets → Type 0
+SameRooms t u = SameRoom t.numbers u.numbers × SameRoom t.labels u.labels
+
+-- What they hold, and looking a line up
 
 abbrev pub nearest_by : Bool → ℕ → List ℕ → Option ℕ
 nearest_by true n ks = nearest_after n ks
 nearest_by false n ks = nearest_up_to n ks
 
-abbrev pub same_place : Place → Place → Bool
-same_place a b = a.from == b.from && a.length == b.length
-
-unfoldable pub same_entries : {K : Type 0} → (K → K → Bool) → List (Entry K) → List (Entry K) → Bool
-same_entries same [] [] = true
-same_entries same [] (f ∷ fs) = false
-same_entries same (e ∷ es) [] = false
-same_entries same (e ∷ es) (f ∷ fs) = same e.key f.key && (e.line == f.line && same_entries same es fs)
-
-abbrev pub numbers_in : List Said → List (Entry ℕ) → Bool
-numbers_in ls es = same_entries (λ a b. nat_eq a b) es (numbers_of 1 ls)
-
-abbrev pub labels_in : List Said → List (Entry Place) → Bool
-labels_in ls es = same_entries same_place es (labels_of 1 ls)
-
-pub record Whole (ls : List Said) (ns : List (Entry ℕ)) (bs : List (Entry Place)) : Type 0 where
-  pub numbers : ns ≡ numbers_of 1 ls
-  pub labels : bs ≡ labels_of 1 ls
-  pub numbered : numbers_in ls ns ≡ true
-  pub labelled : labels_in ls bs ≡ true
+pub record Whole (ls : List Said) (t : Targets) : Type 0 where
+  pub numbers : entries t.numbers ≡ numbers_of 1 ls
+  pub labels : entries t.labels ≡ labels_of 1 ls

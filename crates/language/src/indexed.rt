@@ -1,25 +1,24 @@
 //! A program with the indexes that hold its targets.
-ghost use Rattle.std.specs.Prelude.{◌≡◌, true, take};
+ghost use Rattle.std.specs.Prelude.{◌≡◌};
 ghost use Rattle.forms.specs.Model.{name_at};
-ghost use Rattle.index.specs.Entries.{lines_with};
+ghost use Rattle.index.specs.Entries.{entries, lines_with};
 ghost use Rattle.rules.specs.Targets.{target as target_is};
 ghost use Rattle.rules.specs.Values.{named_target};
 ghost use Rattle.reading.specs.Reading.{held_text, held_lines};
-ghost use Rattle.language.specs.Indexing.{numbers_in, labels_in, nearest_by};
+ghost use Rattle.language.specs.Indexing.{nearest_by, Whole};
 
+use crate::targets::Targets;
 use forms::said::{Place, Target};
 use index::index::Index;
 use index::key::Key;
 use reading::program::Program;
 
-/// A program, and two indexes that hold the N numbers and the labels of its lines, and no others.
+/// A program, and the indexes that hold the targets of its lines, and no others.
 #[derive(Drop)]
-pub struct Indexed<'p, 't, 'n, 'a, 'l, 'b> {
-    pub program: &'p Program<'t>,
-    pub numbers: &'n Index<'a, u32>,
-    pub labels: &'l Index<'b, Place>,
-    ghost numbered: { numbers_in (held_lines program.now) (take numbers.now.used numbers.now.room.now) ≡ true },
-    ghost labelled: { labels_in (held_lines program.now) (take labels.now.used labels.now.room.now) ≡ true },
+pub struct Indexed<'a, 't, 'r> {
+    pub program: &'a Program<'t>,
+    pub targets: &'a Targets<'r>,
+    ghost whole: { ∥ Whole (held_lines program.now) targets.now ∥₁ },
 }
 
 /// The nearest line under a key: above a line, or else up to it.
@@ -30,7 +29,7 @@ fn nearest<K: Key>(
     forward: bool,
     from: usize,
 ) -> Option<usize>
-    ensures value { result ≡ nearest_by forward from (lines_with (K.same text.now) key.now (take index.now.used index.now.room.now)) }
+    ensures value { result ≡ nearest_by forward from (lines_with (K.same text.now) key.now (entries index.now)) }
 {
     if forward {
         index.after(text, key, from)
@@ -39,15 +38,15 @@ fn nearest<K: Key>(
     }
 }
 
-impl Indexed<'_, '_, '_, '_, '_, '_> {
+impl Indexed<'_, '_, '_> {
     /// The line that a target means, seen from a line.
     pub fn find(&self, forward: bool, target: Target<Place>, from: usize) -> Option<usize>
         ensures value { result ≡ target_is (held_lines self.now.program.now) forward (named_target (name_at (held_text self.now.program.now)) target) from }
     {
         let text = self.program.text();
         match target {
-            Target::Number(number) => nearest(self.numbers, text, &number, forward, from),
-            Target::Label(name) => nearest(self.labels, text, &name, forward, from),
+            Target::Number(number) => nearest(&self.targets.numbers, text, &number, forward, from),
+            Target::Label(name) => nearest(&self.targets.labels, text, &name, forward, from),
         }
     }
 }

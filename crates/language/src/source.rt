@@ -8,7 +8,7 @@ use forms::said::{Place, Statement, Target};
 use rules::source::Source;
 use sums::parameters::Parameters;
 
-impl Source for Indexed<'_, '_, '_, '_, '_, '_> {
+impl Source for Indexed<'_, '_, '_> {
     ghost lines = { λ s. held_lines s.program.now };
 
     ghost names = { λ s p. name_at (held_text s.program.now) p };

@@ -15,12 +15,7 @@ fn tell(rt: &HostRuntime, name: &str) -> anyhow::Result<()> {
             println!(rt; "{name}: {count} lines")?;
             telling::tell(rt, text.as_slice())?;
         }
-        Err(refusal) => {
-            let number = refusal.reason.number();
-            let line = refusal.line;
-            let motion = refusal.motion;
-            println!(rt; "{name}: refused {number} {line} {motion}")?;
-        }
+        Err(refusal) => println!(rt; "{name}: {refusal}")?,
     }
     Ok(())
 }

@@ -14,18 +14,12 @@ use shop::home;
 pub fn setup() -> Setup
     ensures value { setup_is result ≡ shop_setup }
 {
-    let none = Axes {
-        x: None,
-        y: None,
-        z: None,
-    };
-    let Ok(limits) = LimitBox::new(Limits {
-        lower: none,
-        upper: none,
-    }) else {
-        unreachable()
-    };
-    let zero = Axes { x: 0, y: 0, z: 0 };
+    let limits = LimitBox::new(Limits {
+        lower: Axes::alike(None),
+        upper: Axes::alike(None),
+    })
+    .unwrap();
+    let zero = Axes::alike(0);
     let zeros = Zeros {
         g54: zero,
         g55: zero,

@@ -1,57 +1,21 @@
 //! Writes the trace of a text.
-ghost use Rattle.language.specs.Indexing.{room_of};
+ghost use Rattle.language.specs.Indexing.{free};
 ghost use Rattle.reading.specs.Reading.{held_lines};
 ghost use Rattle.tracelist.specs.Told.{Told};
 
-use crate::kinds::letter;
+use crate::listing::Listed;
 use crate::setup::setup;
 use forms::said::Place;
 use index::entry::Entry;
 use index::index::Index;
 use language::indexed::Indexed;
-use language::targets::enter_targets;
+use language::targets::Targets;
 use motions::refusal::Refusal;
-use motions::row::{PathKind, Row};
 use reading::program::Program;
-use rules::run::Made;
 use traces::journal::Journal;
 
 /// A program has at most as many lines, so no more of its N numbers or labels.
 const ROOM: usize = 2000;
-
-/// Writes a refusal: its number, its line and its motion.
-fn tell_refusal(rt: &HostRuntime, refusal: Refusal) -> anyhow::Result<()> {
-    let number = refusal.reason.number();
-    let line = refusal.line;
-    let motion = refusal.motion;
-    println!(rt; "refused {number} {line} {motion}")?;
-    Ok(())
-}
-
-/// Writes a motion: its line, its kind, its end, and the centre of an arc.
-fn tell_motion(rt: &HostRuntime, line: usize, row: &Row) -> anyhow::Result<()> {
-    let kind = letter(&row.kind);
-    let x = row.end.x;
-    let y = row.end.y;
-    let z = row.end.z;
-    match &row.kind {
-        PathKind::Rapid | PathKind::Line => println!(rt; "{line} {kind} {x} {y} {z}")?,
-        PathKind::Arc(arc) => {
-            let u = arc.centre.u;
-            let v = arc.centre.v;
-            println!(rt; "{line} {kind} {x} {y} {z} {u} {v}")?;
-        }
-    }
-    Ok(())
-}
-
-/// Writes each of the motions that a run made.
-fn tell_motions(rt: &HostRuntime, motions: &[Made]) -> anyhow::Result<()> {
-    for made in motions {
-        tell_motion(rt, made.line, &made.motion.row())?;
-    }
-    Ok(())
-}
 
 /// Runs a program and records what it makes.
 fn run(
@@ -60,15 +24,16 @@ fn run(
     labels: &mut [Entry<Place>],
     journal: &mut Journal,
 ) -> Result<(), Refusal>
-    ensures value { Told (held_lines program.now) (room_of numbers.old 0) (room_of labels.old 0) journal.new result }
+    ensures value { Told (held_lines program.now) (free numbers.old) (free labels.old) journal.new result }
 {
-    let mut numbers = Index::new(numbers);
-    let mut labels = Index::new(labels);
-    enter_targets(program, &mut numbers, &mut labels)?;
+    let mut targets = Targets {
+        numbers: Index::new(numbers),
+        labels: Index::new(labels),
+    };
+    targets.enter(program)?;
     let source = Indexed {
         program,
-        numbers: &numbers,
-        labels: &labels,
+        targets: &targets,
     };
     journal.record(&source, &setup())
 }
@@ -78,7 +43,8 @@ pub fn tell(rt: &HostRuntime, text: &[u8]) -> anyhow::Result<()> {
     let heap = rt.alloc();
     let mut program = Program::new(heap)?;
     if let Err(refusal) = program.read(text) {
-        return tell_refusal(rt, refusal);
+        println!(rt; "{refusal}")?;
+        return Ok(());
     }
     let mut numbers = vec![in heap; Entry { key: 0u32, line: 0 }; ROOM]?;
     let nowhere = Place { from: 0, length: 0 };
@@ -88,10 +54,13 @@ pub fn tell(rt: &HostRuntime, text: &[u8]) -> anyhow::Result<()> {
     }; ROOM]?;
     let mut journal = Journal::new(heap)?;
     let end = run(&program, &mut numbers, &mut labels, &mut journal);
-    tell_motions(rt, journal.motions())?;
+    for made in journal.motions() {
+        let listed = Listed::of(made);
+        println!(rt; "{listed}")?;
+    }
     match end {
         Ok(()) => println!(rt; "end")?,
-        Err(refusal) => tell_refusal(rt, refusal)?,
+        Err(refusal) => println!(rt; "{refusal}")?,
     }
     Ok(())
 }

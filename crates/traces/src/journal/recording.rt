@@ -47,10 +47,7 @@ impl Journal {
         self.made.clear();
         let mut run = Run::start(setup);
         'lines: loop {
-            let step = match run.step(source) {
-                Err(refusal) => return Err(refusal),
-                Ok(step) => step,
-            };
+            let step = run.step(source)?;
             self.note(step.made);
             if step.ended {
                 return Ok(());

@@ -1,17 +1,8 @@
-use Rattle.std.proofs.Common.{Err, sym, ap, ◌∙◌}
-use Rattle.language.specs.Indexing.{answer}
-use Rattle.language.proofs.Entering.{put_added, put_kept}
+use Rattle.std.proofs.Common.{rules}
+use Rattle.language.proofs.Entering.{put_is}
 use Rattle.language.proofs.targets.enter_one.Goals as goal
 
-pub returns-in-Ok : goal.returns-in-Ok
-returns-in-Ok g c =
-    let said = c.in-Ok.ensures in
-    let e = put_added c.args.index.now.room.now c.args.index.now.used c.args.target c.in-Some.key c.args.line c.in-Some.is c.enter.new.self.room.now c.enter.new.self.used said.entered in
-    record { room = sym (ap (λ p. p.room) e); answer = sym (ap (λ p. answer p.full) e); length = said.length; lent = said.lent }
-
-pub returns-in-Err : goal.returns-in-Err
-returns-in-Err g c =
-    let said = c.in-Err.ensures in
-    let why = ap (λ e. Err e) c.no_place.ensures.value in
-    let e = put_kept c.args.index.now.room.now c.args.index.now.used c.args.target c.in-Some.key c.args.line c.in-Some.is c.enter.new.self.room.now c.enter.new.self.used said.entered in
-    record { room = sym (ap (λ p. p.room) e); answer = why ∙ sym (ap (λ p. answer p.full) e); length = said.length; lent = said.lent }
+pub returns : goal.returns
+returns g c =
+    let put = put_is c.args.index.now c.args.target c.in-Some.key c.args.line c.in-Some.is c.enter.new.self _ (λ f e k. search rules) c.enter.result c.map_err.result c.enter.ensures.entered c.map_err.ensures.cases in
+    record { room = put.room; answer = put.answer; same = c.enter.ensures.same }

@@ -1,7 +1,9 @@
-use Rattle.std.proofs.Common.{◌≡◌, ℕ, List, Some, None, Ok, Option, Result, ap, ◌∙◌, arith}
+use Rattle.std.proofs.Common.{◌≡◌, ℕ, List, Some, None, Ok, Option, Result, take, drop, ap, ◌∙◌, arith}
 use Rattle.motions.specs.declared.refusal.Refusal.{Refusal}
 use Rattle.forms.specs.declared.said.Place.{Place}
-use Rattle.language.specs.Indexing.{Room, room_of, enter_all, answer}
+use Rattle.index.specs.declared.entry.Entry.{Entry}
+use Rattle.index.specs.declared.index.Index.{Index}
+use Rattle.language.specs.Indexing.{Room, room_of, free, enter_all, answer}
 use Rattle.reading.specs.Reading.{held_lines}
 use Rattle.rules.specs.State.{Setup}
 use Rattle.rules.specs.Targets.{Said}
@@ -20,14 +22,16 @@ entered p n n' b b' j r en eb e t = go (enter_all p n b).full (e ∙ (λ i. answ
     go None h = t
     go (Some k) h = absurd (let z : ◌≡◌ {A = ℕ} 0 1 = cc in omega arith)
 
+-- an index that was just made over a room
+opened : {K : Type 0} (i : Index K) (es : List (Entry K)) → i.used ≡ 0 → i.room.now ≡ es → room_of i ≡ free es
+opened i es none is = λ j. record { entered = take (none j) (is j); rest = drop (none j) (is j) }
+
 pub returns : goal.returns
 returns c =
     let p = held_lines c.args.program.now in
-    let fresh = c.new-numbers.ensures in
-    let fresh' = c.new-labels.ensures in
+    let numbers = c.new.ensures in
+    let labels = c.new-2.ensures in
     record {
-      value = entered p _ (room_of c.new-numbers.result.room.now c.new-numbers.result.used) _ (room_of c.new-labels.result.room.now c.new-labels.result.used) c.record.new.self c.record.result
-          (λ i. room_of (fresh.room i) (fresh.empty i)) (λ i. room_of (fresh'.room i) (fresh'.empty i))
-          c.in_ok-enter_targets.ensures.answer
+      value = entered p _ _ _ _ c.record.new.self c.record.result (opened c.new.result _ numbers.empty numbers.room) (opened c.new-2.result _ labels.empty labels.room) c.in_ok-enter.ensures.entered.answer
           (c.record.ensures.value ∙ ap (λ (u : Setup). trace p u) c.setup.ensures.value);
     }

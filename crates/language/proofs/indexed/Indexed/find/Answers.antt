@@ -1,14 +1,16 @@
-use Rattle.std.proofs.Common.{◌≡◌, ℕ, Bool, true, false, List, take, sym, refl, ap, ◌∙◌}
+use Rattle.std.proofs.Common.{◌≡◌, ℕ, Bool, true, false, List, sym, refl, ap, ◌∙◌}
+use Rattle.std.proofs.Math.Logic.{∥∥₁_elim}
+use Rattle.std.specs.Coded.{Coded-set, coded_option, coded_ℕ}
 use Rattle.forms.specs.Forms.{Named}
 use Rattle.forms.specs.Model.{name_at}
 use Rattle.forms.specs.declared.said.Place.{Place}
 use Rattle.forms.specs.declared.said.Target.{Target}
-use Rattle.index.specs.Entries.{lines_with, same_name}
+use Rattle.index.specs.Entries.{entries, lines_with, same_name}
 use Rattle.rules.specs.Targets.{Said, bearers, target as means}
 use Rattle.rules.specs.Values.{named_target}
 use Rattle.reading.specs.declared.program.Program.{Program}
 use Rattle.reading.specs.Reading.{held_text, held_lines}
-use Rattle.language.specs.Indexing.{nearest_by}
+use Rattle.language.specs.Indexing.{nearest_by, Whole}
 use Rattle.language.proofs.Matching.{number_lines, label_lines}
 use Rattle.language.proofs.indexed.Indexed.find.Goals as goal
 
@@ -26,13 +28,13 @@ pub returns-in-Number : goal.returns-in-Number
 returns-in-Number c =
     let s = c.args.self.now in
     let p = s.program.now in
-    let bear = number_lines p (take s.numbers.now.used s.numbers.now.room.now) s.numbered c.in-Number.number in
-    record { value = c.nearest.ensures.value ∙ among p c.args.forward c.args.from c.args.target _ c.in-Number.is _ bear }
+    let bear = λ (w : Whole (held_lines p) s.targets.now). number_lines p s.targets.now w c.in-Number.number in
+    record { value = ∥∥₁_elim s.whole (Coded-set (coded_option coded_ℕ) _ _) (λ w. c.nearest.ensures.value ∙ among p c.args.forward c.args.from c.args.target _ c.in-Number.is _ (bear w)) }
 
 pub returns-in-Label : goal.returns-in-Label
 returns-in-Label c =
     let s = c.args.self.now in
     let p = s.program.now in
-    let es = take s.labels.now.used s.labels.now.room.now in
-    let bear = ap (λ text. lines_with (same_name text) c.in-Label.name es) c.text-text.ensures.value ∙ label_lines p es s.labelled c.in-Label.name in
-    record { value = c.nearest-in-Label.ensures.value ∙ among p c.args.forward c.args.from c.args.target _ c.in-Label.is _ bear }
+    let name = c.in-Label.name in
+    let bear = λ (w : Whole (held_lines p) s.targets.now). ap (λ text. lines_with (same_name text) name (entries s.targets.now.labels)) c.text-text.ensures.value ∙ label_lines p s.targets.now w name in
+    record { value = ∥∥₁_elim s.whole (Coded-set (coded_option coded_ℕ) _ _) (λ w. c.nearest-in-Label.ensures.value ∙ among p c.args.forward c.args.from c.args.target _ c.in-Label.is _ (bear w)) }
