@@ -35,7 +35,7 @@ use Rattle.forms.specs.declared.said.Measure.TheVariants.{Absolute, Incremental}
 use Rattle.forms.specs.declared.said.Slot.{Slot}
 use Rattle.forms.specs.declared.said.Slot.TheVariants.{G500, G54, G55, G56, G57}
 use Rattle.rules.specs.declared.state.Zeros.{Zeros}
-use Rattle.rules.specs.Values.{Each}
+use Rattle.forms.specs.Words.{Each}
 use Rattle.rules.specs.State.{State, Made, Event, goes, ends, origin, no_frame, refuse_motion, with_modal, due_at, moved_to}
 
 -- ---- the functions of a line
