@@ -3,6 +3,7 @@
 --     out_start .. in_clear  the cases of the test
 --     arc_told               the whole: yes with every point within, no with a point beyond
 use Rattle.std.proofs.Common.{◌≡◌, true, false, [], ◌∷◌, ℤ, pos, ◌+ℤ◌, ◌-ℤ◌, ◌*ℤ◌, ◌≤ℤ◌, ◌<ℤ◌, MatchBool, sym, refl, ap, ◌∙◌, arith}
+use lib.IntN.{*ℤ_comm}
 use Rattle.std.proofs.lemmas.Int.{ints}
 use Rattle.algebra.specs.declared.vector.Vector.{Vector}
 use Rattle.algebra.specs.Plane.{dot, cross, ◌−◌, scaled, Within, Beyond, side, stays}
@@ -28,9 +29,6 @@ scaled_side s e p k w m is =
 
 swapped : (a b c : ℤ) → (a *ℤ b) *ℤ c ≡ b *ℤ (c *ℤ a)
 swapped a b c = identity (a ∷ b ∷ c ∷ []) ((var 0 ⊗ var 1) ⊗ var 2) (var 1 ⊗ (var 2 ⊗ var 0)) tt
-
-commuted : (a b : ℤ) → a *ℤ b ≡ b *ℤ a
-commuted a b = identity (a ∷ b ∷ []) (var 0 ⊗ var 1) (var 1 ⊗ var 0) tt
 
 squares : (a b c : ℤ) → (a *ℤ a) *ℤ ((b *ℤ b) *ℤ c) ≡ ((a *ℤ b) *ℤ (a *ℤ b)) *ℤ c
 squares a b c = identity (a ∷ b ∷ c ∷ []) ((var 0 ⊗ var 0) ⊗ ((var 1 ⊗ var 1) ⊗ var 2)) (((var 0 ⊗ var 1) ⊗ (var 0 ⊗ var 1)) ⊗ var 2) tt
@@ -58,13 +56,13 @@ module _ (s e n : Vector) (d : ℤ) (round_e : dot e e ≡ dot s s) (in_s : dot 
         end =
             chord (scaled m s) (scaled m e) (scaled w p) (scaled k x) n (m *ℤ d)
             (scaled_square m e ∙ ap (λ (z : ℤ). (m *ℤ m) *ℤ z) round_e ∙ sym (scaled_square m s))
-            (round p w k (commuted w k) round_p)
+            (round p w k (*ℤ_comm w k) round_p)
             (round x k w refl on.round)
             (inner s in_s)
             (inner e in_e)
             (≡-< (swapped k w d) (<-≡ (mul-< w on.whole out_p) (sym (scaled_dot w n p))))
             (<-≡ (pos_mul (m *ℤ w) _ (pos_mul m w m_pos on.whole) left_p) (sym (scaled_side s e p k w m refl)))
-            (≡-≤ (scaled_side s e x w k m (commuted k w)) (low_mul (m *ℤ k) _ (<-≤ (pos_mul m k m_pos k_pos)) on.side))
+            (≡-≤ (scaled_side s e x w k m (*ℤ_comm k w)) (low_mul (m *ℤ k) _ (<-≤ (pos_mul m k m_pos k_pos)) on.side))
 
 one_pos : pos 0 <ℤ pos 1
 one_pos = record { lt = tt }

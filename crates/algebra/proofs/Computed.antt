@@ -8,9 +8,11 @@ use Rattle.algebra.specs.Plane.{dot}
 use Rattle.algebra.specs.Sizes.{Bounded, Short}
 use Rattle.algebra.proofs.Bounded.{Num, bitted, returned, cast, mul_bounded, add_bounded}
 
--- `product(a, b) as i128`
-pub product_num : {r : ℤ} (a b : ℤ) → SFits w32 a → SFits w32 b → mag r < 2 ^ 63 → r ≡ bitted w32 a *ℤ bitted w32 b → Num (bitted w128 (bitted w64 r)) (a *ℤ b) (2 ^ 63)
-product_num a b fa fb h e = cast w128 (returned w64 h (e ∙ ap₂ ◌*ℤ◌ (to_z-of_z w32 a fa) (to_z-of_z w32 b fb))) (lit< tt)
+-- `i128::from(product(a, b))`
+pub product_num : {p r : ℤ} (a b : ℤ) → SFits w32 a → SFits w32 b → mag p < 2 ^ 63 → p ≡ bitted w32 a *ℤ bitted w32 b → r ≡ bitted w64 p → Num (bitted w128 r) (a *ℤ b) (2 ^ 63)
+product_num a b fa fb h e same =
+    let p = returned w64 h (e ∙ ap₂ ◌*ℤ◌ (to_z-of_z w32 a fa) (to_z-of_z w32 b fb)) in
+    cast w128 (record { is = same ∙ p.is; size = p.size }) (lit< tt)
 
 pub dot_bounded : {a b : ℕ} (x y : Vector) → Short a x → Short b y → Bounded (a * b + a * b) (dot x y)
 dot_bounded {a} {b} x y h k =

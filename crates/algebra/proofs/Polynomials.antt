@@ -155,12 +155,9 @@ times_one x = omega (arith, ints)
 minus_one : (x : ℤ) → negsuc 0 *ℤ x ≡ neg_ℤ x
 minus_one x = omega (arith, ints)
 
-nothing_at : (i : ℕ) → at [] i ≡ pos 0
-nothing_at i = refl
-
 variable_is : (ρ : List ℤ) (i : ℕ) → eval ρ (variable i) ≡ at ρ i
 variable_is [] zero = refl
-variable_is [] (suc i) = variable_is [] i ∙ sym (nothing_at i)
+variable_is [] (suc i) = variable_is [] i
 variable_is (x ∷ ρ) zero = +ℤ_idl (x *ℤ pos 1) ∙ times_one x
 variable_is (x ∷ ρ) (suc i) = lift_is ρ (variable i) x ∙ variable_is ρ i
 

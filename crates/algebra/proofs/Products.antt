@@ -3,8 +3,8 @@
 --     nn_mul, pos_mul, low_mul    the sign of a product, from those of its factors
 --     mul-≤, mul-<, cancel-≤      a common factor
 --     below_root, between         what a square and a product tell of their factors
-use Rattle.std.proofs.Common.{◌≡◌, zero, suc, true, false, [], ◌∷◌, ℤ, pos, negsuc, ◌+ℤ◌, ◌-ℤ◌, ◌*ℤ◌, ◌≤ℤ◌, ◌<ℤ◌, sym, ◌∙◌, arith}
-use lib.Signed.{lt_z}
+use Rattle.std.proofs.Common.{◌≡◌, zero, suc, [], ◌∷◌, ℤ, pos, negsuc, ◌+ℤ◌, ◌-ℤ◌, ◌*ℤ◌, ◌≤ℤ◌, ◌<ℤ◌, arith}
+use Rattle.std.specs.Int.Signed.{clash_ℤ}
 use Rattle.std.proofs.lemmas.Int.{ints, by_lt_z}
 use Rattle.algebra.proofs.Polynomials.{num, var, ◌⊕◌, ◌⊖◌, ◌⊗◌, identity}
 
@@ -22,9 +22,6 @@ pub <-≡ : {a b c : ℤ} → a <ℤ b → b ≡ c → a <ℤ c
 
 pub <-≤ : {a b : ℤ} → a <ℤ b → a ≤ℤ b
 <-≤ {a} {b} h = omega (arith, ints)
-
-pub no_both : {a b : ℤ} → a <ℤ b → b ≤ℤ a → ⊥
-no_both {a} {b} h k = omega (arith, ints)
 
 pub add_nn : {a b : ℤ} → pos 0 ≤ℤ a → pos 0 ≤ℤ b → pos 0 ≤ℤ (a +ℤ b)
 add_nn {a} {b} h k = omega (arith, ints)
@@ -66,7 +63,7 @@ mul-< k {a} {b} hk h =
     (identity (k ∷ a ∷ b ∷ []) (var 0 ⊗ (var 2 ⊖ var 1)) (var 0 ⊗ var 2 ⊖ var 0 ⊗ var 1) tt)
 
 pub cancel-≤ : (k a b : ℤ) → pos 0 <ℤ k → (k *ℤ a) ≤ℤ (k *ℤ b) → a ≤ℤ b
-cancel-≤ k a b hk h = by_lt_z b a (λ lt. absurd (no_both (mul-< k hk lt) h)) (λ le. le)
+cancel-≤ k a b hk h = by_lt_z b a (λ lt. clash_ℤ (mul-< k hk lt) h) (λ le. le)
 
 pub low_mul : (a b : ℤ) → pos 0 ≤ℤ a → b ≤ℤ pos 0 → (a *ℤ b) ≤ℤ pos 0
 low_mul a b h g = ≤-≡ (mul-≤ a h g) (identity (a ∷ []) (var 0 ⊗ num (pos 0)) (num (pos 0)) tt)
@@ -82,7 +79,7 @@ pos_left (negsuc a) b h k = absurd k.le
 pub below_root : (a b : ℤ) → (a *ℤ a) ≤ℤ (b *ℤ b) → pos 0 ≤ℤ b → a ≤ℤ b
 below_root a b h k =
     by_lt_z b a
-    (λ lt. absurd (no_both (from_diff-< (pos_mul (a -ℤ b) (a +ℤ b) (omega (arith, ints)) (omega (arith, ints))) (identity (a ∷ b ∷ []) ((var 0 ⊖ var 1) ⊗ (var 0 ⊕ var 1)) (var 0 ⊗ var 0 ⊖ var 1 ⊗ var 1) tt)) h))
+    (λ lt. clash_ℤ (from_diff-< (pos_mul (a -ℤ b) (a +ℤ b) (omega (arith, ints)) (omega (arith, ints))) (identity (a ∷ b ∷ []) ((var 0 ⊖ var 1) ⊗ (var 0 ⊕ var 1)) (var 0 ⊗ var 0 ⊖ var 1 ⊗ var 1) tt)) h)
     (λ le. le)
 
 -- t·(t − w) is not above 0, w being above 0: t lies from 0 to w
@@ -93,17 +90,4 @@ between t w m hw hm h = (
 )
   where
     apart : pos 0 <ℤ (t *ℤ (t -ℤ w)) → ⊥
-    apart p = no_both (pos_mul (t *ℤ (t -ℤ w)) m p hm) h
-
-pub lt_z_yes : {a b : ℤ} → a <ℤ b → lt_z a b ≡ true
-lt_z_yes {a} {b} h = grind (arith, ints)
-
-pub lt_z_no : {a b : ℤ} → b ≤ℤ a → lt_z a b ≡ false
-lt_z_no {a} {b} h = grind (arith, ints)
-
--- a factor above 0 leaves the sign of the other
-pub sign_mul : (a b : ℤ) → pos 0 <ℤ a → lt_z (pos 0) b ≡ lt_z (pos 0) (a *ℤ b)
-sign_mul a b h =
-    by_lt_z (pos 0) b
-    (λ lt. lt_z_yes lt ∙ sym (lt_z_yes (pos_mul a b h lt)))
-    (λ le. lt_z_no le ∙ sym (lt_z_no (low_mul a b (<-≤ h) le)))
+    apart p = clash_ℤ (pos_mul (t *ℤ (t -ℤ w)) m p hm) h

@@ -6,29 +6,23 @@
 use Rattle.std.proofs.Common.{◌≡◌, Bool, true, false, cond, ◌&&◌, ℤ, ◌≤ℤ◌, ◌<ℤ◌, MatchBool, refl, arith}
 use lib.Signed.{lt_z, le_z}
 use Rattle.std.proofs.lemmas.Int.{ints}
-use Rattle.std.proofs.lemmas.Bool.{and_parts}
+use Rattle.std.proofs.lemmas.Bool.{and_parts, cond_both}
 
 module _ (I O : Type 0) where
+  -- by the two answers of any test
+  told : (t : Bool) → (t ≡ true → I) → (t ≡ false → O) → MatchBool t I O
+  told true f g = f refl
+  told false f g = g refl
+
   pub by_less : (a b : ℤ) (x y : Bool) → (a <ℤ b → MatchBool x I O) → (b ≤ℤ a → MatchBool y I O) → MatchBool (cond (lt_z a b) x y) I O
-  by_less a b x y f g = go (lt_z a b) refl
-    where
-      go : (t : Bool) → lt_z a b ≡ t → MatchBool (cond t x y) I O
-      go true e = f (omega (arith, ints))
-      go false e = g (omega (arith, ints))
+  by_less a b x y f g =
+      cond_both (lt_z a b) x y (λ z. MatchBool z I O) (λ e. f (omega (arith, ints))) (λ e. g (omega (arith, ints)))
 
   pub less : (a b : ℤ) → (a <ℤ b → I) → (b ≤ℤ a → O) → MatchBool (lt_z a b) I O
-  less a b f g = go (lt_z a b) refl
-    where
-      go : (t : Bool) → lt_z a b ≡ t → MatchBool t I O
-      go true e = f (omega (arith, ints))
-      go false e = g (omega (arith, ints))
+  less a b f g = told (lt_z a b) (λ e. f (omega (arith, ints))) (λ e. g (omega (arith, ints)))
 
   pub at_most : (a b : ℤ) → (a ≤ℤ b → I) → (b <ℤ a → O) → MatchBool (le_z a b) I O
-  at_most a b f g = go (le_z a b) refl
-    where
-      go : (t : Bool) → le_z a b ≡ t → MatchBool t I O
-      go true e = f (omega (arith, ints))
-      go false e = g (omega (arith, ints))
+  at_most a b f g = told (le_z a b) (λ e. f (omega (arith, ints))) (λ e. g (omega (arith, ints)))
 
   pub and_told : (A : Type 0) (x y : Bool) → MatchBool x A O → (A → MatchBool y I O) → MatchBool (x && y) I O
   and_told A true y h f = f h

@@ -5,7 +5,7 @@ ghost use Rattle.std.specs.Prelude.{◌≡◌, pos, ◌*ℤ◌, int_lt};
 pub fn product(a: i32, b: i32) -> i64
     ensures value { result ≡ a *ℤ b }
 {
-    a as i64 * b as i64
+    i64::from(a) * i64::from(b)
 }
 
 /// Whether the product of two numbers is above 0, told by their signs: the product itself may not fit.

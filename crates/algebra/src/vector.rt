@@ -18,7 +18,7 @@ impl Vector {
         ensures value { result ≡ dot_of self other }
         ensures bound { Bounded (2 ^ 64) result }
     {
-        product(self.u, other.u) as i128 + product(self.v, other.v) as i128
+        i128::from(product(self.u, other.u)) + i128::from(product(self.v, other.v))
     }
 
     /// The signed area that the two span: above 0 where `other` lies counterclockwise of `self`.
@@ -26,6 +26,6 @@ impl Vector {
         ensures value { result ≡ cross_of self other }
         ensures bound { Bounded (2 ^ 64) result }
     {
-        product(self.u, other.v) as i128 - product(self.v, other.u) as i128
+        i128::from(product(self.u, other.v)) - i128::from(product(self.v, other.u))
     }
 }

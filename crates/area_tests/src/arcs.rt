@@ -1,7 +1,7 @@
 //! Arcs against boxes and edges, at limits that they just keep and just pass.
-use crate::making::{arc, at, edge, x_from_to, y_from_to};
+use crate::making::{arc, at, edge, from_to};
 use geometry::area::{Area, Pair};
-use motions::axes::Plane;
+use motions::axes::{Axis, Plane};
 use motions::row::Turn;
 use std::test::Fail;
 
@@ -25,8 +25,8 @@ fn circle_between_two_micrometres(rt: HostRuntime) -> Result<(), Fail> {
         100_000,
         100_000,
     )?;
-    let wide = x_from_to(None, Some(198_995))?;
-    let tight = x_from_to(None, Some(198_994))?;
+    let wide = from_to(Axis::X, None, Some(198_995))?;
+    let tight = from_to(Axis::X, None, Some(198_994))?;
     assert!(rt; wide.admits(&left) && wide.admits(&right));
     assert!(rt; !tight.admits(&left) && !tight.admits(&right));
     Ok(())
@@ -40,8 +40,8 @@ fn quarter_and_its_other_way_round(rt: HostRuntime) -> Result<(), Fail> {
     let quarter = arc(Plane::XY, Turn::Counterclockwise, start, end, 0, 0)?;
     let rest = arc(Plane::XY, Turn::Clockwise, start, end, 0, 0)?;
     let quadrant = Pair {
-        first: x_from_to(Some(0), None)?,
-        second: y_from_to(Some(0), None)?,
+        first: from_to(Axis::X, Some(0), None)?,
+        second: from_to(Axis::Y, Some(0), None)?,
     };
     assert!(rt; quadrant.admits(&quarter) && !quadrant.admits(&rest));
     Ok(())
@@ -58,9 +58,9 @@ fn circle_touches_a_wall(rt: HostRuntime) -> Result<(), Fail> {
         100_000,
         100_000,
     )?;
-    assert!(rt; x_from_to(Some(0), Some(200_000))?.admits(&circle));
-    assert!(rt; !x_from_to(Some(1), None)?.admits(&circle));
-    assert!(rt; !x_from_to(None, Some(199_999))?.admits(&circle));
+    assert!(rt; from_to(Axis::X, Some(0), Some(200_000))?.admits(&circle));
+    assert!(rt; !from_to(Axis::X, Some(1), None)?.admits(&circle));
+    assert!(rt; !from_to(Axis::X, None, Some(199_999))?.admits(&circle));
     Ok(())
 }
 
@@ -110,8 +110,8 @@ fn widest_arc(rt: HostRuntime) -> Result<(), Fail> {
         edge(1, 1, 0, 3_045_362)?.admits(&short) && !edge(1, 1, 0, 3_045_361)?.admits(&short)
     );
     assert!(rt;
-        x_from_to(None, Some(2_000_000))?.admits(&short)
-            && !x_from_to(None, Some(1_999_999))?.admits(&short)
+        from_to(Axis::X, None, Some(2_000_000))?.admits(&short)
+            && !from_to(Axis::X, None, Some(1_999_999))?.admits(&short)
     );
     let long = arc(
         Plane::XY,
@@ -121,7 +121,7 @@ fn widest_arc(rt: HostRuntime) -> Result<(), Fail> {
         -4_000_000,
         -4_000_000,
     )?;
-    assert!(rt; !x_from_to(None, Some(2_000_000))?.admits(&long));
+    assert!(rt; !from_to(Axis::X, None, Some(2_000_000))?.admits(&long));
     assert!(rt;
         !edge(100, 100, 0, 304_536_101)?.admits(&short)
             && edge(100, 100, 0, 304_536_102)?.admits(&short)
@@ -136,12 +136,14 @@ fn half_circle_up_to_a_limit_at_its_ends(rt: HostRuntime) -> Result<(), Fail> {
     let above = arc(Plane::XY, Turn::Counterclockwise, start, end, 0, 0)?;
     let below = arc(Plane::XY, Turn::Clockwise, start, end, 0, 0)?;
     assert!(rt;
-        y_from_to(Some(0), None)?.admits(&above) && !y_from_to(Some(0), None)?.admits(&below)
+        from_to(Axis::Y, Some(0), None)?.admits(&above)
+            && !from_to(Axis::Y, Some(0), None)?.admits(&below)
     );
     assert!(rt;
-        y_from_to(None, Some(0))?.admits(&below) && !y_from_to(None, Some(0))?.admits(&above)
+        from_to(Axis::Y, None, Some(0))?.admits(&below)
+            && !from_to(Axis::Y, None, Some(0))?.admits(&above)
     );
-    assert!(rt; !y_from_to(Some(1), None)?.admits(&above));
+    assert!(rt; !from_to(Axis::Y, Some(1), None)?.admits(&above));
     Ok(())
 }
 
@@ -150,8 +152,8 @@ fn half_circle_up_to_a_limit_at_its_ends(rt: HostRuntime) -> Result<(), Fail> {
 fn circle_from_the_point_farthest_from_the_limit(rt: HostRuntime) -> Result<(), Fail> {
     let start = at(-10, 0, 0);
     let circle = arc(Plane::XY, Turn::Counterclockwise, start, start, 0, 0)?;
-    assert!(rt; !x_from_to(None, Some(-10))?.admits(&circle));
-    assert!(rt; !x_from_to(None, Some(9))?.admits(&circle));
-    assert!(rt; x_from_to(None, Some(10))?.admits(&circle));
+    assert!(rt; !from_to(Axis::X, None, Some(-10))?.admits(&circle));
+    assert!(rt; !from_to(Axis::X, None, Some(9))?.admits(&circle));
+    assert!(rt; from_to(Axis::X, None, Some(10))?.admits(&circle));
     Ok(())
 }

@@ -1,10 +1,10 @@
 //! What rows, boxes, edges and homes are taken, and what they give back.
-use crate::making::{at, motion, x_from_to};
+use crate::making::{at, from_to, motion};
 use algebra::vector::Vector;
 use geometry::area::Area;
 use geometry::edge::Edge;
 use geometry::limit_box::LimitBox;
-use motions::axes::{Axes, Plane, Position};
+use motions::axes::{Axes, Axis, Plane, Position};
 use motions::home::Home;
 use motions::limits::Limits;
 use motions::motion::Motion;
@@ -12,12 +12,9 @@ use motions::refusal::Reason;
 use motions::row::{Arc, PathKind, Row, Turn};
 use std::test::Fail;
 
-/// The number of a refusal, 0 where there is none.
-fn refused(row: &Row) -> u8 {
-    match Motion::from_row(row) {
-        Ok(_) => 0,
-        Err(reason) => reason.number(),
-    }
+/// The number of the reason for which a row is refused, if it is.
+fn refused(row: &Row) -> Option<u8> {
+    Motion::from_row(row).err().map(Reason::number)
 }
 
 #[test]
@@ -59,18 +56,18 @@ fn arc(start: Position, end: Position, v: i32) -> Row {
 
 #[test]
 fn rows_out_of_range(rt: HostRuntime) {
-    assert_eq!(rt; refused(&line(at(0, 0, 0), at(0, 2_000_001, 0))), 4);
-    assert_eq!(rt; refused(&line(at(0, 0, -2_000_001), at(0, 0, 0))), 4);
-    assert_eq!(rt; refused(&line(at(0, 0, 0), at(0, 0, -2_000_000))), 0);
-    assert_eq!(rt; refused(&arc(at(0, 1, 0), at(0, 2, 5), 4_000_001)), 4);
+    assert_eq!(rt; refused(&line(at(0, 0, 0), at(0, 2_000_001, 0))), Some(4));
+    assert_eq!(rt; refused(&line(at(0, 0, -2_000_001), at(0, 0, 0))), Some(4));
+    assert_eq!(rt; refused(&line(at(0, 0, 0), at(0, 0, -2_000_000))), None);
+    assert_eq!(rt; refused(&arc(at(0, 1, 0), at(0, 2, 5), 4_000_001)), Some(4));
 }
 
 #[test]
 fn rows_that_break_the_arc_rule(rt: HostRuntime) {
-    assert_eq!(rt; refused(&arc(at(0, 5, 0), at(3, 4, 0), 0)), 0);
-    assert_eq!(rt; refused(&arc(at(0, 5, 0), at(3, 4, 1), 0)), 5);
-    assert_eq!(rt; refused(&arc(at(0, 5, 0), at(3, 5, 0), 0)), 5);
-    assert_eq!(rt; refused(&arc(at(0, 0, 0), at(0, 0, 0), 0)), 5);
+    assert_eq!(rt; refused(&arc(at(0, 5, 0), at(3, 4, 0), 0)), None);
+    assert_eq!(rt; refused(&arc(at(0, 5, 0), at(3, 4, 1), 0)), Some(5));
+    assert_eq!(rt; refused(&arc(at(0, 5, 0), at(3, 5, 0), 0)), Some(5));
+    assert_eq!(rt; refused(&arc(at(0, 0, 0), at(0, 0, 0), 0)), Some(5));
 }
 
 #[test]
@@ -81,16 +78,8 @@ fn settings_out_of_range(rt: HostRuntime) {
     assert!(rt;
         Home::new(at(2_000_000, -2_000_000, 0)).is_ok() && Home::new(at(0, 0, -2_000_001)).is_err()
     );
-    let none = Axes {
-        x: None,
-        y: None,
-        z: None,
-    };
-    let far = Axes {
-        x: None,
-        y: Some(-2_000_001),
-        z: None,
-    };
+    let none = Axes::alike(None);
+    let far = none.with(Axis::Y, Some(-2_000_001));
     assert!(rt;
         LimitBox::new(Limits {
             lower: none,
@@ -119,7 +108,8 @@ fn settings_out_of_range(rt: HostRuntime) {
 fn empty_box(rt: HostRuntime) -> Result<(), Fail> {
     let still = motion(PathKind::Rapid, at(0, 0, 0), at(0, 0, 0))?;
     assert!(rt;
-        !x_from_to(Some(1), Some(-1))?.admits(&still) && x_from_to(None, None)?.admits(&still)
+        !from_to(Axis::X, Some(1), Some(-1))?.admits(&still)
+            && from_to(Axis::X, None, None)?.admits(&still)
     );
     Ok(())
 }

@@ -2,9 +2,11 @@
 --     keeps_told      the test of a half space
 --     box_told        the test of a box: six half spaces, one for each limit that is there
 --     both, likewise  two answers make that for the points in both sets
-use Rattle.std.proofs.Common.{◌≡◌, Bool, true, false, ◌&&◌, [], ◌∷◌, ℤ, pos, negsuc, ◌-ℤ◌, ◌*ℤ◌, neg_ℤ, ◌≤ℤ◌, Some, None, MatchBool, Option, ap, ◌∙◌, arith}
+use Rattle.std.proofs.Common.{◌≡◌, Bool, true, false, ◌&&◌, [], ◌∷◌, ℤ, pos, negsuc, ◌*ℤ◌, ◌≤ℤ◌, Some, None, MatchBool, Option, sym, arith}
 use Rattle.std.proofs.lemmas.Int.{ints}
-use Rattle.algebra.proofs.Polynomials.{num, var, ◌⊕◌, ◌⊖◌, ◌⊗◌, identity}
+use Rattle.algebra.proofs.Integers.{*-assoc}
+use Rattle.algebra.proofs.Polynomials.{num, var, ◌⊕◌, ◌⊗◌, identity}
+use Rattle.algebra.proofs.Products.{≡-≤, ≤-≡}
 use Rattle.motions.specs.declared.axes.Axis.{Axis}
 use Rattle.motions.specs.declared.axes.Axis.TheVariants.{X, Y, Z}
 use Rattle.motions.specs.declared.axes.Axes.{Axes}
@@ -17,7 +19,8 @@ use Rattle.motions.specs.Motions.{kind_closes, keeps_arc_rule}
 use Rattle.geometry.specs.Points.{Point}
 use Rattle.geometry.specs.Paths.{OnKind}
 use Rattle.geometry.specs.Areas.{Outside, Answered, rise, InEdge, AtLeast, AtMost, InBox}
-use Rattle.geometry.specs.Deciding.{keeps_kind, keeps, unit, keeps_lower, keeps_upper, keeps_axis, keeps_box}
+use Rattle.geometry.specs.declared.limit_box.side.Side.TheVariants.{Lower, Upper}
+use Rattle.geometry.specs.Deciding.{keeps_kind, keeps, unit, keeps_limit, keeps_axis, keeps_box}
 use Rattle.geometry.proofs.Straight.{All, Some as SomeOver, line_told, rapid_told}
 use Rattle.geometry.proofs.Lift.{arc_told_in}
 
@@ -49,46 +52,37 @@ unit_rise X k t = identity (k ∷ t.x ∷ t.y ∷ t.z ∷ []) (var 0 ⊗ var 1 �
 unit_rise Y k t = identity (k ∷ t.x ∷ t.y ∷ t.z ∷ []) (num (pos 0) ⊗ var 1 ⊕ var 0 ⊗ var 2 ⊕ num (pos 0) ⊗ var 3) (var 0 ⊗ var 2) tt
 unit_rise Z k t = identity (k ∷ t.x ∷ t.y ∷ t.z ∷ []) (num (pos 0) ⊗ var 1 ⊕ num (pos 0) ⊗ var 2 ⊕ var 0 ⊗ var 3) (var 0 ⊗ var 3) tt
 
-module _ (a : Axis) (v : ℤ) (p : Point) where
-  upper_to : InEdge (unit a (pos 1)) v p → AtMost (Some v) (coordinate a p.numerators) p.denominator
-  upper_to h = go h (unit_rise a (pos 1) p.numerators)
+-- a limit v of a side, at the factor f of that side
+module _ (f : ℤ) (a : Axis) (v : ℤ) (p : Point) where
+  beside : InEdge (unit a f) (f *ℤ v) p → (f *ℤ coordinate a p.numerators) ≤ℤ (f *ℤ (v *ℤ pos p.denominator))
+  beside h = ≡-≤ (sym (unit_rise a f p.numerators)) (≤-≡ h together)
     where
-      go : {r c m : ℤ} → r ≤ℤ m → r ≡ pos 1 *ℤ c → c ≤ℤ m
-      go {r} {c} {m} h e = omega (arith, ints)
+      together : (f *ℤ v) *ℤ pos p.denominator ≡ f *ℤ (v *ℤ pos p.denominator)
+      together = *-assoc f v (pos p.denominator)
 
-  upper_fro : AtMost (Some v) (coordinate a p.numerators) p.denominator → InEdge (unit a (pos 1)) v p
-  upper_fro h = go h (unit_rise a (pos 1) p.numerators)
-    where
-      go : {r c m : ℤ} → c ≤ℤ m → r ≡ pos 1 *ℤ c → r ≤ℤ m
-      go {r} {c} {m} h e = omega (arith, ints)
+  inside : (f *ℤ coordinate a p.numerators) ≤ℤ (f *ℤ (v *ℤ pos p.denominator)) → InEdge (unit a f) (f *ℤ v) p
+  inside h = ≡-≤ (unit_rise a f p.numerators) (≤-≡ h (sym (*-assoc f v (pos p.denominator))))
 
-  minus : neg_ℤ v *ℤ pos p.denominator ≡ pos 0 -ℤ v *ℤ pos p.denominator
-  minus =
-      ap (λ (z : ℤ). z *ℤ pos p.denominator) opposite ∙ identity (v ∷ pos p.denominator ∷ []) ((num (pos 0) ⊖ var 0) ⊗ var 1) (num (pos 0) ⊖ var 0 ⊗ var 1) tt
-    where
-      opposite : neg_ℤ v ≡ pos 0 -ℤ v
-      opposite = omega (arith, ints)
+at_least : {x y : ℤ} → (negsuc 0 *ℤ x) ≤ℤ (negsuc 0 *ℤ y) → y ≤ℤ x
+at_least {x} {y} h = omega (arith, ints)
 
-  lower_to : InEdge (unit a (negsuc 0)) (neg_ℤ v) p → AtLeast (Some v) (coordinate a p.numerators) p.denominator
-  lower_to h = go (v *ℤ pos p.denominator) h (unit_rise a (negsuc 0) p.numerators) minus
-    where
-      go : (m : ℤ) {r c l : ℤ} → r ≤ℤ l → r ≡ negsuc 0 *ℤ c → l ≡ pos 0 -ℤ m → m ≤ℤ c
-      go m {r} {c} {l} h e f = omega (arith, ints)
+at_least_from : {x y : ℤ} → y ≤ℤ x → (negsuc 0 *ℤ x) ≤ℤ (negsuc 0 *ℤ y)
+at_least_from {x} {y} h = omega (arith, ints)
 
-  lower_fro : AtLeast (Some v) (coordinate a p.numerators) p.denominator → InEdge (unit a (negsuc 0)) (neg_ℤ v) p
-  lower_fro h = go (v *ℤ pos p.denominator) h (unit_rise a (negsuc 0) p.numerators) minus
-    where
-      go : (m : ℤ) {r c l : ℤ} → m ≤ℤ c → r ≡ negsuc 0 *ℤ c → l ≡ pos 0 -ℤ m → r ≤ℤ l
-      go m {r} {c} {l} h e f = omega (arith, ints)
+at_most : {x y : ℤ} → (pos 1 *ℤ x) ≤ℤ (pos 1 *ℤ y) → x ≤ℤ y
+at_most {x} {y} h = omega (arith, ints)
+
+at_most_from : {x y : ℤ} → x ≤ℤ y → (pos 1 *ℤ x) ≤ℤ (pos 1 *ℤ y)
+at_most_from {x} {y} h = omega (arith, ints)
 
 module _ (m : Row) (closed : keeps_arc_rule m ≡ true) where
-  lower_told : (a : Axis) (o : Option ℤ) → Answered (keeps_lower a o m) (λ p. AtLeast o (coordinate a p.numerators) p.denominator) m
+  lower_told : (a : Axis) (o : Option ℤ) → Answered (keeps_limit Lower a o m) (λ p. AtLeast o (coordinate a p.numerators) p.denominator) m
   lower_told a None = λ p on. tt
-  lower_told a (Some v) = likewise m _ _ _ (λ p h. lower_to a v p h) (λ p h. lower_fro a v p h) (keeps_told (unit a (negsuc 0)) (neg_ℤ v) m closed)
+  lower_told a (Some v) = likewise m _ _ _ (λ p h. at_least (beside (negsuc 0) a v p h)) (λ p h. inside (negsuc 0) a v p (at_least_from h)) (keeps_told (unit a (negsuc 0)) (negsuc 0 *ℤ v) m closed)
 
-  upper_told : (a : Axis) (o : Option ℤ) → Answered (keeps_upper a o m) (λ p. AtMost o (coordinate a p.numerators) p.denominator) m
+  upper_told : (a : Axis) (o : Option ℤ) → Answered (keeps_limit Upper a o m) (λ p. AtMost o (coordinate a p.numerators) p.denominator) m
   upper_told a None = λ p on. tt
-  upper_told a (Some v) = likewise m _ _ _ (λ p h. upper_to a v p h) (λ p h. upper_fro a v p h) (keeps_told (unit a (pos 1)) v m closed)
+  upper_told a (Some v) = likewise m _ _ _ (λ p h. at_most (beside (pos 1) a v p h)) (λ p h. inside (pos 1) a v p (at_most_from h)) (keeps_told (unit a (pos 1)) (pos 1 *ℤ v) m closed)
 
   -- the points between the limits of one axis
   abbrev Slab : Limits → Axis → Point → Type 0

@@ -25,7 +25,7 @@ use Rattle.geometry.specs.Points.{Point}
 use Rattle.geometry.specs.Paths.{RightOf, OnTurn, OnArc}
 use Rattle.geometry.specs.Areas.{rise}
 use Rattle.geometry.specs.Deciding.{centre_rise, turn_stays}
-use Rattle.geometry.proofs.Straight.{All, Some}
+use Rattle.geometry.proofs.Straight.{All, Some, above}
 
 abbrev view : Arc → Point → Vector
 view a p = flat a.plane p.numerators − scaled (pos p.denominator) a.centre
@@ -53,9 +53,6 @@ view_side c s e p q =
 abbrev FlatOn : Turn → Vector → Vector → Vector → ℤ → Type 0
 FlatOn Counterclockwise s e x w = OnFlat s e x w
 FlatOn Clockwise s e x w = OnFlat e s x w
-
-above : (q : ℕ) → 0 < q → pos 0 <ℤ pos q
-above q h = omega (arith, ints)
 
 module _ (a : Arc) (s e : Axes ℤ) (round_e : square a s ≡ square a e) where
   onto : (t : Turn) → a.turn ≡ t → (p : Point) → OnArc a s e p → FlatOn t (arm a s) (arm a e) (view a p) (pos p.denominator)

@@ -21,6 +21,10 @@ All P n d = (p : Point) → P p → InEdge n d p
 abbrev pub Some : (Point → Type 0) → Axes ℤ → ℤ → Type 0
 Some P n d = (p : Point) × P p × (InEdge n d p → ⊥)
 
+-- a denominator as a number above 0
+pub above : (k : ℕ) → 0 < k → pos 0 <ℤ pos k
+above k h = omega (arith, ints)
+
 -- a position beyond
 beyond : (n s : Axes ℤ) (d : ℤ) → d <ℤ rise n s → InEdge n d (place s) → ⊥
 beyond n s d h k = go d h k
@@ -54,9 +58,6 @@ line_in : (s e n : Axes ℤ) (d : ℤ) → rise n s ≤ℤ d → rise n e ≤ℤ
 line_in s e n d hs he p o =
     cancel-≤ (pos o.parts) (rise n p.numerators) (d *ℤ pos p.denominator) (above o.parts o.some)
     (≡-≤ (line_rise s e n p o) (≤-≡ (mul-≤ (pos p.denominator) (omega (arith, ints)) (blend (rise n s) (rise n e) d o.part o.parts hs he o.up_to)) (identity (pos p.denominator ∷ pos o.parts ∷ d ∷ []) (var 0 ⊗ (var 1 ⊗ var 2)) (var 1 ⊗ (var 2 ⊗ var 0)) tt)))
-  where
-    above : (k : ℕ) → 0 < k → pos 0 <ℤ pos k
-    above k h = omega (arith, ints)
 
 starts : (a b : ℤ) → pos 1 *ℤ a ≡ pos 1 *ℤ (pos 1 *ℤ a +ℤ pos 0 *ℤ (b -ℤ a))
 starts a b = identity (a ∷ b ∷ []) (num (pos 1) ⊗ var 0) (num (pos 1) ⊗ (num (pos 1) ⊗ var 0 ⊕ num (pos 0) ⊗ (var 1 ⊖ var 0))) tt

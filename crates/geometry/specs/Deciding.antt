@@ -3,8 +3,10 @@
 --     centre_rise a s n    what n rises to at the centre of the arc a, at the level of s
 --     keeps n d m          the row m stays where n rises to at most d
 --     unit a k             the direction of the axis a, times k
+--     limit_on s a l       the limit on the side s of the axis a
+--     keeps_limit s a o m  the row m keeps o, where there is one, as the limit on that side
 --     keeps_box l m        the row m stays within the limits l
-use Rattle.std.specs.Prelude.{Bool, true, cond, ◌&&◌, ℤ, pos, negsuc, ◌+ℤ◌, ◌-ℤ◌, ◌*ℤ◌, neg_ℤ, Some, None, Option, int_le, int_lt}
+use Rattle.std.specs.Prelude.{Bool, true, cond, ◌&&◌, ℤ, pos, negsuc, ◌+ℤ◌, ◌-ℤ◌, ◌*ℤ◌, Some, None, Option, int_le, int_lt}
 use Rattle.std.specs.Int.{int_max, int_min}
 use Rattle.algebra.specs.declared.vector.Vector.{Vector}
 use Rattle.algebra.specs.Plane.{dot, stays}
@@ -18,8 +20,10 @@ use Rattle.motions.specs.declared.row.Arc.{Arc}
 use Rattle.motions.specs.declared.row.PathKind.{PathKind}
 use Rattle.motions.specs.declared.row.PathKind.TheVariants.{Rapid, Line, Arc as arc}
 use Rattle.motions.specs.declared.row.Row.{Row}
-use Rattle.motions.specs.Axes.{coordinate, flat}
+use Rattle.motions.specs.Axes.{coordinate, alike, set_on, flat}
 use Rattle.motions.specs.Motions.{arm, level}
+use Rattle.geometry.specs.declared.limit_box.side.Side.{Side}
+use Rattle.geometry.specs.declared.limit_box.side.Side.TheVariants.{Lower, Upper}
 use Rattle.geometry.specs.Areas.{rise}
 
 -- that of a and b at which k times it is larger
@@ -48,20 +52,23 @@ abbrev pub keeps : Axes ℤ → ℤ → Row → Bool
 keeps n d m = keeps_kind n d m.kind m.start m.end
 
 abbrev pub unit : Axis → ℤ → Axes ℤ
-unit X k = record { x = k; y = pos 0; z = pos 0 }
-unit Y k = record { x = pos 0; y = k; z = pos 0 }
-unit Z k = record { x = pos 0; y = pos 0; z = k }
+unit a k = set_on a k (alike (pos 0))
 
-abbrev pub keeps_lower : Axis → Option ℤ → Row → Bool
-keeps_lower a None m = true
-keeps_lower a (Some v) m = keeps (unit a (negsuc 0)) (neg_ℤ v) m
+-- a coordinate keeps a limit of the side where it is at most that, both times the factor
+abbrev pub factor : Side → ℤ
+factor Lower = negsuc 0
+factor Upper = pos 1
 
-abbrev pub keeps_upper : Axis → Option ℤ → Row → Bool
-keeps_upper a None m = true
-keeps_upper a (Some v) m = keeps (unit a (pos 1)) v m
+abbrev pub limit_on : Side → Axis → Limits → Option ℤ
+limit_on Lower a l = coordinate a l.lower
+limit_on Upper a l = coordinate a l.upper
+
+abbrev pub keeps_limit : Side → Axis → Option ℤ → Row → Bool
+keeps_limit s a None m = true
+keeps_limit s a (Some v) m = keeps (unit a (factor s)) (factor s *ℤ v) m
 
 abbrev pub keeps_axis : Limits → Axis → Row → Bool
-keeps_axis l a m = keeps_lower a (coordinate a l.lower) m && keeps_upper a (coordinate a l.upper) m
+keeps_axis l a m = keeps_limit Lower a (limit_on Lower a l) m && keeps_limit Upper a (limit_on Upper a l) m
 
 abbrev pub keeps_box : Limits → Row → Bool
 keeps_box l m = keeps_axis l X m && (keeps_axis l Y m && keeps_axis l Z m)

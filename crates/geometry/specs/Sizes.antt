@@ -1,17 +1,8 @@
 -- How large the numbers are that decide about an arc, so that none of the sums is too large to compute. Assumes nothing.
---     Sized r n c d m g      the numbers of the last test
---     Posed s e n d          an arc and a half plane as they are handed over: seen from a centre in range
+--     Posed s e n d    an arc and a half plane as they are handed over: seen from a centre in range
 use Rattle.std.specs.Prelude.{ℤ}
 use Rattle.algebra.specs.declared.vector.Vector.{Vector}
 use Rattle.algebra.specs.Sizes.{Bounded, Short}
-
-pub record Sized (r n c d m g : ℤ) : Type 0 where
-  pub of_r : Bounded 72000000000000 r
-  pub of_n : Bounded 20000 n
-  pub of_c : Bounded 1200000000 c
-  pub of_d : Bounded 2000000000 d
-  pub of_m : Bounded 144000000000000 m
-  pub of_g : Bounded 2400000000 g
 
 pub record Posed (s e n : Vector) (d : ℤ) : Type 0 where
   pub start : Short 6000000 s

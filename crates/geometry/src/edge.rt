@@ -4,13 +4,14 @@ ghost use Rattle.geometry.specs.Settings.{edge_taken};
 
 use motions::axes::Axes;
 
+mod arc_path;
 pub mod asking;
 mod making;
 
 /// The points with a·X + b·Y + c·Z ≤ d: `normal` has a, b and c, not all 0, and `limit` is d.
 #[derive(Clone, Copy, Drop)]
 pub struct Edge {
-    normal: Axes<i32>,
-    limit: i32,
+    pub(crate) normal: Axes<i32>,
+    pub(crate) limit: i32,
     ghost taken: { edge_taken normal limit ≡ true },
 }

@@ -1,49 +1,55 @@
 //! An arc about the origin against a half plane, decided on whole numbers.
 ghost use Rattle.std.specs.Prelude.{◌≡◌};
-ghost use Rattle.algebra.specs.Plane.{stays as stays_is, side_of};
-ghost use Rattle.geometry.specs.Sizes.{Sized, Posed};
+ghost use Rattle.algebra.specs.Plane.{stays as stays_is, side as side_is};
+ghost use Rattle.geometry.specs.Sizes.{Posed};
 
 use algebra::number::product_is_positive;
 use algebra::vector::Vector;
 
-/// The number whose sign tells on which side of the chord the mirrored point lies.
-fn side(r: i128, n: i128, c: i128, d: i128, m: i128, g: i128) -> i128
-    requires { Sized r n c d m g }
-    ensures value { result ≡ side_of r n c d m g }
-{
-    let gauge = r * n - d * c;
-    let gap = d - c;
-    (gauge + gap * n) * m + (gauge + gap * r) * g
+/// The arc from `start` to `end`, counterclockwise about the origin, and the half plane normal·x ≤ limit.
+/// They are seen from a centre in range, so none of the sums is too large to compute.
+#[derive(Clone, Copy, Drop)]
+pub(crate) struct ArcAndHalfPlane {
+    pub(crate) start: Vector,
+    pub(crate) end: Vector,
+    pub(crate) normal: Vector,
+    pub(crate) limit: i128,
+    ghost posed: { Posed start end normal limit },
 }
 
-/// Whether the arc from `s` to `e`, counterclockwise about the origin, stays where n·x ≤ d.
-pub(crate) fn stays(s: Vector, e: Vector, n: Vector, d: i128) -> bool
-    requires { Posed s e n d }
-    ensures value { result ≡ stays_is s e n d }
-{
-    let at_start = n.dot(s);
-    let at_end = n.dot(e);
-    if at_start > d {
-        return false;
+impl ArcAndHalfPlane {
+    /// The number whose sign tells on which side of the chord the mirrored point lies.
+    fn side(self) -> i128
+        ensures value { result ≡ side_is self.start self.end self.normal self.limit }
+    {
+        let radius = self.start.dot(self.start);
+        let slope = self.normal.dot(self.normal);
+        let at_start = self.normal.dot(self.start);
+        let ahead = self.end.dot(self.start) - radius;
+        let climb = self.normal.dot(self.end) - at_start;
+        let gauge = radius * slope - self.limit * at_start;
+        let gap = self.limit - at_start;
+        (gauge + gap * slope) * ahead + (gauge + gap * radius) * climb
     }
-    if at_end > d {
-        return false;
+
+    /// Whether the arc stays in the half plane.
+    pub(crate) fn stays(self) -> bool
+        ensures value { result ≡ stays_is self.start self.end self.normal self.limit }
+    {
+        let limit = self.limit;
+        let at_start = self.normal.dot(self.start);
+        if at_start > limit {
+            return false;
+        }
+        if self.normal.dot(self.end) > limit {
+            return false;
+        }
+        if at_start + limit < 0 {
+            return self.start.cross(self.end) > 0;
+        }
+        if limit * limit < self.start.dot(self.start) * self.normal.dot(self.normal) {
+            return product_is_positive(self.start.cross(self.normal), self.side());
+        }
+        true
     }
-    if at_start + d < 0 {
-        return s.cross(e) > 0;
-    }
-    let radius = s.dot(s);
-    let slope = n.dot(n);
-    if d * d < radius * slope {
-        let mirrored = side(
-            radius,
-            slope,
-            at_start,
-            d,
-            e.dot(s) - radius,
-            at_end - at_start,
-        );
-        return product_is_positive(s.cross(n), mirrored);
-    }
-    true
 }

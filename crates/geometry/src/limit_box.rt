@@ -6,6 +6,7 @@ use motions::limits::Limits;
 
 pub mod asking;
 mod making;
+mod side;
 
 /// The points from the lower to the upper limit of each axis, limits counted. An absent limit admits every coordinate on its side.
 #[derive(Clone, Copy, Drop)]

@@ -1,58 +1,73 @@
 -- The fields of a line, from its front. Assumes nothing.
-use Rattle.std.proofs.Common.{◌≡◌, ℕ, zero, suc, ◌<◌, ◌≤◌, Bool, true, false, cond, List, [], ◌∷◌, ◌++◌, length, get_or, take, drop, sym, refl, ap, ◌∙◌, ⊎_elim, arith, take-append-drop, length-take-le, drop-cons, get_or-take}
-use Rattle.std.proofs.lemmas.Bool.{cases_lt}
+use Rattle.std.proofs.Common.{◌≡◌, ℕ, suc, ◌+◌, ◌≤◌, Bool, true, false, cond, not, List, [], ◌∷◌, length, get_or, position, unwrap_or, Some, None, Option, take, drop, sym, refl, ap, ◌∙◌, ⊎_elim, arith, drop-cons}
+use Rattle.std.specs.List.{position_or_len}
+use Rattle.std.proofs.lemmas.Bool.{cases_Bool, not-true}
+use Rattle.std.proofs.lemmas.Bool.Decides.{nat_tests}
 use Rattle.std.proofs.lemmas.List.{drop_all}
+use Rattle.std.proofs.lemmas.List.Sums.{prefix_len-le-length, position_or_len_is}
+use Rattle.std.proofs.lemmas.List.Quantifiers.{position-Some}
 use Rattle.pathcheck.specs.Fields.{is_blank, opens, joined, fields}
 
--- a blank in front changes nothing
-pub fields_blank : (b : ℕ) (s : List ℕ) → is_blank b ≡ true → fields (b ∷ s) ≡ fields s
+abbrev in_field : ℕ → Bool
+in_field b = not (is_blank b)
+
+-- blanks in front change nothing
+skipped : (s : List ℕ) → fields (drop (position_or_len in_field s) s) ≡ fields s
 unfolding fields
-fields_blank b s h = ap (λ (t : Bool). cond t (fields s) (joined b (opens s) (fields s))) h
-
-pub fields_skip : (s : List ℕ) (i : ℕ) → i < length s → is_blank (get_or s i 0) ≡ true → fields (drop (suc i) s) ≡ fields (drop i s)
-fields_skip s i h b = sym (ap fields (drop-cons s i 0 h) ∙ fields_blank (get_or s i 0) (drop (suc i) s) b)
-
--- a run of bytes that are no blanks, with a blank or nothing after it, is a field
-pub fields_run : (b : ℕ) (f s : List ℕ) → is_blank b ≡ false → ((k : ℕ) → k < length f → is_blank (get_or f k 0) ≡ false) → opens s ≡ true → fields (b ∷ (f ++ s)) ≡ (b ∷ f) ∷ fields s
-unfolding fields
-fields_run b [] s nb all o = (λ i. cond (nb i) (fields s) (joined b (o i) (fields s)))
-fields_run b (c ∷ f) s nb all o =
-    let nc : is_blank c ≡ false = all 0 (omega arith) in
-    (λ i. cond (nb i) (fields (c ∷ (f ++ s))) (joined b (nc i) (fields (c ∷ (f ++ s)))))
-    ∙ ap (joined b false) (fields_run c f s nc (λ k h. all (suc k) (omega arith)) o)
-
-opened : (s : List ℕ) (k : ℕ) → (k < length s → is_blank (get_or s k 0) ≡ true) → opens (drop k s) ≡ true
-opened s k found =
+skipped [] = refl
+skipped (b ∷ s) =
+    let n = position_or_len in_field s in
+    let next : 1 + n ≡ suc n = omega arith in
     ⊎_elim
-    (λ (h : k < length s). ap opens (drop-cons s k 0 h) ∙ found h)
-    (λ (h : length s ≤ k). ap opens (drop_all k s h))
-    (cases_lt k (length s))
+    (λ (h : is_blank b ≡ true).
+    (λ i. fields (drop (cond (not (not (h i))) (next i) 0) (b ∷ s)))
+    ∙ skipped s ∙ sym (ap (λ t. cond t (fields s) (joined b (opens s) (fields s))) h))
+    (λ (h : is_blank b ≡ false). ap (λ t. fields (drop (cond (not (not t)) (1 + n) 0) (b ∷ s))) h)
+    (cases_Bool (is_blank b))
 
--- what `first_field` cuts off: s begins with no blank, and its bytes below n are none
-module _ (s : List ℕ) (n : ℕ) (within : n ≤ length s) (before : (k : ℕ) → k < n → is_blank (get_or s k 0) ≡ false) (found : n < length s → is_blank (get_or s n 0) ≡ true) (starts : 0 < length s → is_blank (get_or s 0 0) ≡ false) where
-  pub first_cut : (take n s ≡ get_or (fields s) 0 []) × (fields (drop n s) ≡ drop 1 (fields s)) × (length (take n s) ≡ 0 → length (fields s) ≡ 0)
-  unfolding fields
-  first_cut = go s n within before found starts
-    where
-      go : (s : List ℕ) (n : ℕ) → n ≤ length s → ((k : ℕ) → k < n → is_blank (get_or s k 0) ≡ false) → (n < length s → is_blank (get_or s n 0) ≡ true) → (0 < length s → is_blank (get_or s 0 0) ≡ false) → (take n s ≡ get_or (fields s) 0 []) × (fields (drop n s) ≡ drop 1 (fields s)) × (length (take n s) ≡ 0 → length (fields s) ≡ 0)
-      go [] zero w b f st = (refl, refl, λ e. refl)
-      go [] (suc n) w b f st = absurd (omega arith)
-      go (x ∷ s) zero w b f st =
-          let no : ◌≡◌ {A = Bool} true false = sym (f (omega arith)) ∙ st (omega arith) in
-          absurd (let z : ◌≡◌ {A = ℕ} 0 1 = cc in omega arith)
-      go (x ∷ s) (suc n) w b f st =
-          let run : fields (x ∷ (take n s ++ drop n s)) ≡ (x ∷ take n s) ∷ fields (drop n s) =
-          fields_run x (take n s) (drop n s) (st (omega arith))
-          (λ k h. let lt : k < n = omega (arith, length-take-le n s (omega arith)) in ap is_blank (get_or-take n s k 0 lt) ∙ b (suc k) (omega arith))
-          (opened s n (λ h. f (omega arith))) in
-          let all : fields (x ∷ s) ≡ (x ∷ take n s) ∷ fields (drop n s) = ap (λ (t : List ℕ). fields (x ∷ t)) (sym (take-append-drop n s)) ∙ run in
-          (sym (ap (λ (fs : List (List ℕ)). get_or fs 0 []) all), sym (ap (λ (fs : List (List ℕ)). drop 1 fs) all), λ e. absurd (omega arith))
+-- a byte that is no blank opens a field that goes on to the next blank
+opened : (b : ℕ) (s : List ℕ) → is_blank b ≡ false → fields (b ∷ s) ≡ (b ∷ take (position_or_len is_blank s) s) ∷ fields (drop (position_or_len is_blank s) s)
+unfolding fields
+opened b [] nb = ap (λ t. cond t [] ((b ∷ []) ∷ [])) nb
+opened b (c ∷ s) nb =
+    let n = position_or_len is_blank s in
+    let next : 1 + n ≡ suc n = omega arith in
+    let cut = λ (k : ℕ). (b ∷ take k (c ∷ s)) ∷ fields (drop k (c ∷ s)) in
+    ⊎_elim
+    (λ (h : is_blank c ≡ true).
+    (λ i. cond (nb i) (fields (c ∷ s)) (joined b (h i) (fields (c ∷ s))))
+    ∙ sym (ap (λ t. cut (cond (not t) (1 + n) 0)) h))
+    (λ (h : is_blank c ≡ false).
+    (λ i. cond (nb i) (fields (c ∷ s)) (joined b (h i) (fields (c ∷ s))))
+    ∙ ap (joined b false) (opened c s h) ∙ sym (λ i. cut (cond (not (h i)) (next i) 0)))
+    (cases_Bool (is_blank c))
 
--- a first field that is not empty is there
-pub head_there : (fs : List (List ℕ)) → 0 < length (get_or fs 0 []) → 0 < length fs
-head_there [] h = absurd (omega arith)
-head_there (f ∷ fs) h = omega arith
+-- a line of blanks has no field
+pub no_field : (s : List ℕ) → None ≡ position (λ b. not (is_blank b)) s → fields s ≡ []
+unfolding fields
+no_field s h =
+    let all : length s ≡ position_or_len in_field s = grind (arith, nat_tests, prefix_len-le-length (λ b. not (in_field b)) s) in
+    sym (skipped s) ∙ ap (λ k. fields (drop k s)) (sym all) ∙ ap fields (drop_all (length s) s (omega arith))
 
-pub front_none : (s : List ℕ) → length s ≡ 0 → get_or s 0 0 ≡ 0
-front_none [] h = refl
-front_none (b ∷ s) h = absurd (omega arith)
+-- the first field, and what follows it
+pub first_field : (s : List ℕ) (i : ℕ) → Some i ≡ position (λ b. not (is_blank b)) s → fields s ≡ take (position_or_len is_blank (drop i s)) (drop i s) ∷ fields (drop (position_or_len is_blank (drop i s)) (drop i s))
+first_field s i h =
+    let found = position-Some in_field s i 0 (sym h) in
+    let e : position_or_len in_field s ≡ i = position_or_len_is in_field s i 0 (omega arith) found.2 (λ l. found.1) in
+    let b = get_or s i 0 in
+    let more = drop (suc i) s in
+    let n = position_or_len is_blank more in
+    let next : 1 + n ≡ suc n = omega arith in
+    let there : drop i s ≡ b ∷ more = drop-cons s i 0 found.0 in
+    let nb : is_blank b ≡ false = not-true (is_blank b) found.1 in
+    sym (skipped s) ∙ ap (λ k. fields (drop k s)) e ∙ ap fields there ∙ opened b more nb
+    ∙ sym (λ j. take (cond (not (nb j)) (next j) 0) (b ∷ more) ∷ fields (drop (cond (not (nb j)) (next j) 0) (b ∷ more)))
+    ∙ sym (ap (λ (t : List ℕ). take (position_or_len is_blank t) t ∷ fields (drop (position_or_len is_blank t) t)) there)
+
+-- a field that ends at the first blank, or else with the line
+pub field_ends : (s : List ℕ) (found : Option ℕ) (end : ℕ) → end ≡ unwrap_or found (length s) → found ≡ position is_blank s → (end ≡ position_or_len is_blank s) × (end ≤ length s)
+field_ends s found end e h =
+    let most : position_or_len is_blank s ≤ length s = prefix_len-le-length (λ b. not (is_blank b)) s in
+    let whole : unwrap_or (position is_blank s) (length s) ≡ position_or_len is_blank s = grind (arith, nat_tests, most) in
+    let is = e ∙ ap (λ o. unwrap_or o (length s)) h ∙ whole in
+    (is, omega (arith, is))

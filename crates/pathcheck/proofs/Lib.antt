@@ -1,3 +1,2 @@
 pub mod FieldLists
 pub mod DigitRuns
-pub mod Settled

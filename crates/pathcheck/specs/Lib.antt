@@ -1,3 +1,4 @@
 pub mod Fields
 pub mod Said
 pub mod Judging
+pub mod Written

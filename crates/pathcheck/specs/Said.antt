@@ -1,10 +1,11 @@
 -- What a line asks for: R or L and an end, A or C and a plane, an end and a centre. Assumes nothing.
---     said s        the path and the end that the line s asks for, or nothing where it is not of that form
-use Rattle.std.specs.Prelude.{ℕ, ◌+◌, cond, List, [], ◌∷◌, length, ℤ, pos, negsuc, Some, None, Option, ◌==◌, slice_index_or}
+--     said s             the path and the end that the line s asks for, or nothing where it is not of that form
+--     Taken n old new    of the list old the first n are taken, and new is left
+use Rattle.std.specs.Prelude.{◌≡◌, ℕ, ◌+◌, cond, List, [], ◌∷◌, length, drop, ℤ, pos, negsuc, Some, None, Option, ◌==◌, slice_index_or}
 use Rattle.algebra.specs.declared.vector.Vector.{Vector}
 use Rattle.motions.specs.declared.axes.Axes.{Axes}
 use Rattle.motions.specs.declared.axes.Plane.{Plane}
-use Rattle.motions.specs.declared.axes.Plane.TheVariants.{XY, ZX, YZ}
+use Rattle.motions.specs.Axes.{plane_of as plane_by}
 use Rattle.motions.specs.declared.row.Turn.{Turn}
 use Rattle.motions.specs.declared.row.Turn.TheVariants.{Counterclockwise, Clockwise}
 use Rattle.motions.specs.declared.row.PathKind.{PathKind}
@@ -29,7 +30,7 @@ number_at fs k = number_of (slice_index_or fs k [])
 
 -- the planes by the numbers of their G functions
 abbrev pub plane_of : ℤ → Option Plane
-plane_of (pos n) = cond (n == 17) (Some XY) (cond (n == 18) (Some ZX) (cond (n == 19) (Some YZ) None))
+plane_of (pos n) = plane_by n
 plane_of (negsuc n) = None
 
 abbrev pub plane_from : Option ℤ → Option Plane
@@ -76,3 +77,7 @@ asked (Some (Curve t)) fs = curve_of t fs
 
 abbrev pub said : List ℕ → Option Asked
 said s = asked (command_of (slice_index_or (fields s) 0 [])) (fields s)
+
+pub record Taken (n : ℕ) (old new : List (List ℕ)) : Type 0 where
+  pub counted : length old ≡ n + length new
+  pub rest : new ≡ drop n old

@@ -1,9 +1,10 @@
 //! What a line asks for.
-ghost use Rattle.std.specs.Prelude.{◌≡◌, ◌<◌, [], slice_index_or};
+ghost use Rattle.std.specs.Prelude.{◌≡◌, ℕ, List, ◌∷◌, OnSome};
+ghost use Rattle.std.specs.Result.{result_ok};
 ghost use Rattle.pathcheck.specs.Fields.{fields};
-ghost use Rattle.pathcheck.specs.Said.{letter_of, command_of, number_at, plane_from, position_at, centre_at, straight_of, curve_of, said as said_by};
+ghost use Rattle.pathcheck.specs.Said.{Taken, letter_of, command_of, number_at, plane_from, position_at, centre_at, straight_of, curve_of, said as said_by};
 
-use crate::field::{field_at, field_count, number};
+use crate::field::{Fields, number};
 use algebra::vector::Vector;
 use motions::axes::{Axes, Plane, Position};
 use motions::row::{Arc, PathKind, Turn};
@@ -17,6 +18,26 @@ pub enum Command {
     Curve(Turn),
 }
 
+/// A byte that is the letter of no command.
+#[derive(Clone, Copy, Drop)]
+pub struct NoCommand;
+
+impl TryFrom<u8> for Command {
+    type Error = NoCommand;
+
+    ghost try_from_gives = { λ byte r. result_ok r ≡ letter_of byte };
+
+    fn try_from(byte: u8) -> Result<Command, NoCommand> {
+        match byte {
+            b'R' => Ok(Command::Straight(PathKind::Rapid)),
+            b'L' => Ok(Command::Straight(PathKind::Line)),
+            b'A' => Ok(Command::Curve(Turn::Counterclockwise)),
+            b'C' => Ok(Command::Curve(Turn::Clockwise)),
+            _ => Err(NoCommand),
+        }
+    }
+}
+
 /// A motion that is asked for, from wherever the machine stands.
 #[derive(Clone, Copy, Drop)]
 pub struct Asked {
@@ -24,111 +45,84 @@ pub struct Asked {
     pub end: Position,
 }
 
-/// As many fields as a line with R or L has.
-const STRAIGHT_FIELDS: usize = 4;
-
-/// As many fields as a line with A or C has.
-const CURVE_FIELDS: usize = 7;
-
-fn letter(byte: u8) -> Option<Command>
-    ensures value { result ≡ letter_of byte }
+/// The command that a field spells.
+fn opening(field: &[u8]) -> Option<Command>
+    ensures value { result ≡ command_of field.now }
 {
-    match byte {
-        b'R' => Some(Command::Straight(PathKind::Rapid)),
-        b'L' => Some(Command::Straight(PathKind::Line)),
-        b'A' => Some(Command::Curve(Turn::Counterclockwise)),
-        b'C' => Some(Command::Curve(Turn::Clockwise)),
+    match field {
+        [letter] => Command::try_from(*letter).ok(),
         _ => None,
     }
 }
 
-/// The command that opens a line.
-fn opening(line: &[u8]) -> Option<Command>
-    ensures value { result ≡ command_of (slice_index_or (fields line.now) 0 []) }
+/// The number in the next field.
+fn next_number(left: &mut Fields<'_>) -> Option<i32>
+    ensures value { result ≡ number_at (fields left.old.0.now) 0 }
+    ensures taken { OnSome result (Taken 1 (fields left.old.0.now) (fields left.new.0.now)) }
 {
-    let field = field_at(line, 0);
-    if field.len() == 1 {
-        letter(field[0])
-    } else {
-        None
-    }
+    number(left.next()?)
 }
 
-/// The number in the field at a place.
-fn number_at(line: &[u8], place: usize) -> Option<i32>
-    ensures value { result ≡ number_at (fields line.now) place }
+/// The plane in the next field.
+fn next_plane(left: &mut Fields<'_>) -> Option<Plane>
+    ensures value { result ≡ plane_from (number_at (fields left.old.0.now) 0) }
+    ensures taken { OnSome result (Taken 1 (fields left.old.0.now) (fields left.new.0.now)) }
 {
-    number(field_at(line, place))
+    let number = next_number(left)?;
+    Plane::try_from(u32::try_from(number).ok()?).ok()
 }
 
-/// The plane that is named in the field at a place.
-fn plane_at(line: &[u8], place: usize) -> Option<Plane>
-    ensures value { result ≡ plane_from (number_at (fields line.now) place) }
+/// The position in the next three fields.
+fn next_position(left: &mut Fields<'_>) -> Option<Position>
+    ensures value { result ≡ position_at (fields left.old.0.now) 0 }
+    ensures taken { OnSome result (Taken 3 (fields left.old.0.now) (fields left.new.0.now)) }
 {
-    match number_at(line, place)? {
-        17 => Some(Plane::XY),
-        18 => Some(Plane::ZX),
-        19 => Some(Plane::YZ),
-        _ => None,
-    }
-}
-
-/// The position in the three fields from a place on.
-fn position_at(line: &[u8], place: usize) -> Option<Position>
-    requires { place < 100 }
-    ensures value { result ≡ position_at (fields line.now) place }
-{
-    let x = number_at(line, place)?;
-    let y = number_at(line, place + 1)?;
-    let z = number_at(line, place + 2)?;
+    let x = next_number(left)?;
+    let y = next_number(left)?;
+    let z = next_number(left)?;
     Some(Axes { x, y, z })
 }
 
-/// The centre in the two fields from a place on.
-fn centre_at(line: &[u8], place: usize) -> Option<Vector>
-    requires { place < 100 }
-    ensures value { result ≡ centre_at (fields line.now) place }
+/// The centre in the next two fields.
+fn next_centre(left: &mut Fields<'_>) -> Option<Vector>
+    ensures value { result ≡ centre_at (fields left.old.0.now) 0 }
+    ensures taken { OnSome result (Taken 2 (fields left.old.0.now) (fields left.new.0.now)) }
 {
-    let u = number_at(line, place)?;
-    let v = number_at(line, place + 1)?;
+    let u = next_number(left)?;
+    let v = next_number(left)?;
     Some(Vector { u, v })
 }
 
-fn straight(line: &[u8], kind: PathKind) -> Option<Asked>
-    ensures value { result ≡ straight_of kind (fields line.now) }
+/// What R or L asks for, where an end and no more follows.
+fn straight(kind: PathKind, mut left: Fields<'_>) -> Option<Asked>
+    ensures value { (f : List ℕ) → result ≡ straight_of kind (f ∷ fields left.entry.0.now) }
 {
-    if field_count(line) != STRAIGHT_FIELDS {
-        return None;
-    }
-    let end = position_at(line, 1)?;
-    Some(Asked { kind, end })
+    let end = next_position(&mut left)?;
+    left.next().is_none().then_some(Asked { kind, end })
 }
 
-fn curve(line: &[u8], turn: Turn) -> Option<Asked>
-    ensures value { result ≡ curve_of turn (fields line.now) }
+/// What A or C asks for, where a plane, an end and a centre and no more follow.
+fn curve(turn: Turn, mut left: Fields<'_>) -> Option<Asked>
+    ensures value { (f : List ℕ) → result ≡ curve_of turn (f ∷ fields left.entry.0.now) }
 {
-    if field_count(line) != CURVE_FIELDS {
-        return None;
-    }
-    let plane = plane_at(line, 1)?;
-    let end = position_at(line, 2)?;
-    let centre = centre_at(line, 5)?;
-    Some(Asked {
-        kind: PathKind::Arc(Arc {
-            plane,
-            turn,
-            centre,
-        }),
-        end,
-    })
+    let plane = next_plane(&mut left)?;
+    let end = next_position(&mut left)?;
+    let centre = next_centre(&mut left)?;
+    let kind = PathKind::Arc(Arc {
+        plane,
+        turn,
+        centre,
+    });
+    left.next().is_none().then_some(Asked { kind, end })
 }
 
 /// The motion that a line asks for, where it is of the form.
 pub fn said(line: &[u8]) -> Option<Asked>
     ensures value { result ≡ said_by line.now }
 {
-    match opening(line)? {
-        Command::Straight(kind) => straight(line, kind),
-        Command::Curve(turn) => curve(line, turn),
+    let mut left = Fields(line);
+    match opening(left.next()?)? {
+        Command::Straight(kind) => straight(kind, left),
+        Command::Curve(turn) => curve(turn, left),
     }
 }

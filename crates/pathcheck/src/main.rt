@@ -10,32 +10,20 @@ use shop::{fixed_area, home};
 use std::io;
 use std::io::{BufRead, BufReader};
 
-/// Writes the answer to the line with a number.
-fn show(rt: &impl Print, number: u64, verdict: Verdict) -> io::Result<()> {
-    match verdict {
-        Verdict::Inside => println!(rt; "{number} inside"),
-        Verdict::Outside => println!(rt; "{number} outside"),
-        Verdict::Refused(reason) => {
-            let reason = reason.number();
-            println!(rt; "{number} refused {reason}")
-        }
-        Verdict::Unreadable => println!(rt; "{number} unreadable"),
-    }
-}
-
 fn main(rt: HostRuntime) -> io::Result<()> {
     let area = fixed_area();
     let mut position = home().position();
+    // Both counts are printed after the loop too, and stay at the greatest number rather than wrap, so no `enumerate`.
     let mut motions: u64 = 0;
     let mut inside: u64 = 0;
     for line in BufReader::new(rt.alloc(), rt.stdin())?.split(rt.alloc(), b'\n') {
         let answer = judge(&area, &position, line?.as_slice());
         position = answer.position;
         motions = motions.saturating_add(1);
-        if let Verdict::Inside = answer.verdict {
+        if answer.verdict == Ok(Verdict::Inside) {
             inside = inside.saturating_add(1);
         }
-        show(&rt, motions, answer.verdict)?;
+        println!(rt; "{motions} {answer}")?;
     }
     println!(rt; "{motions} motions, {inside} inside")
 }

@@ -27,10 +27,7 @@ fn table() -> LimitBox
         y: Some(400_000),
         z: Some(100_000),
     };
-    let Ok(table) = LimitBox::new(Limits { lower, upper }) else {
-        unreachable()
-    };
-    table
+    LimitBox::new(Limits { lower, upper }).unwrap()
 }
 
 /// The cut corner: X + Y is at most 900 mm.
@@ -38,10 +35,7 @@ fn cut() -> Edge
     ensures normal { normal_of result ≡ shop_normal }
     ensures limit { limit_of result ≡ shop_edge }
 {
-    let Ok(cut) = Edge::new(Axes { x: 1, y: 1, z: 0 }, 900_000) else {
-        unreachable()
-    };
-    cut
+    Edge::new(Axes { x: 1, y: 1, z: 0 }, 900_000).unwrap()
 }
 
 /// The area that no motion may leave.
@@ -60,12 +54,10 @@ pub fn fixed_area() -> Pair<LimitBox, Edge>
 pub fn home() -> Home
     ensures position { home_of result ≡ shop_home }
 {
-    let Ok(home) = Home::new(Axes {
+    Home::new(Axes {
         x: 0,
         y: 0,
         z: 100_000,
-    }) else {
-        unreachable()
-    };
-    home
+    })
+    .unwrap()
 }

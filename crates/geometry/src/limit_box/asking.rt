@@ -1,56 +1,59 @@
 //! A box asks each of its limits as an edge whose normal is the direction of an axis.
-ghost use Rattle.std.specs.Prelude.{◌≡◌, true};
+ghost use Rattle.std.specs.Prelude.{◌≡◌};
 ghost use Rattle.geometry.specs.Areas.{InBox};
-ghost use Rattle.geometry.specs.Deciding.{keeps_lower, keeps_upper, keeps_axis, keeps_box};
+ghost use Rattle.geometry.specs.Deciding.{limit_on, keeps_limit, keeps_axis, keeps_box};
 ghost use Rattle.geometry.specs.Model.{limits_of};
-ghost use Rattle.motions.specs.Motions.{row_in_range};
-ghost use Rattle.motions.specs.Ranges.{present_within, position_range};
+ghost use Rattle.motions.specs.Model.{row_of};
 
 use super::LimitBox;
+use super::side::Side;
 use crate::area::Area;
 use crate::edge::Edge;
-use motions::axes::Axis;
+use motions::axes::{Axes, Axis};
 use motions::motion::Motion;
-use motions::row::Row;
-
-fn keeps_lower(axis: Axis, limit: Option<i32>, row: &Row) -> bool
-    requires limit { present_within position_range limit ≡ true }
-    requires row { row_in_range row.now ≡ true }
-    ensures value { result ≡ keeps_lower axis limit row.now }
-{
-    match limit {
-        None => true,
-        Some(limit) => Edge::at_least(axis, limit).keeps(row),
-    }
-}
-
-fn keeps_upper(axis: Axis, limit: Option<i32>, row: &Row) -> bool
-    requires limit { present_within position_range limit ≡ true }
-    requires row { row_in_range row.now ≡ true }
-    ensures value { result ≡ keeps_upper axis limit row.now }
-{
-    match limit {
-        None => true,
-        Some(limit) => Edge::at_most(axis, limit).keeps(row),
-    }
-}
 
 impl LimitBox {
-    fn keeps_axis(&self, axis: Axis, row: &Row) -> bool
-        requires { row_in_range row.now ≡ true }
-        ensures value { result ≡ keeps_axis (limits_of self.now) axis row.now }
+    /// The limit of an axis on a side.
+    fn limit(&self, side: Side, axis: Axis) -> Option<i32>
+        ensures value { result ≡ limit_on side axis (limits_of self.now) }
     {
-        keeps_lower(axis, self.limits.lower.along(axis), row)
-            && keeps_upper(axis, self.limits.upper.along(axis), row)
+        match side {
+            Side::Lower => self.limits.lower.along(axis),
+            Side::Upper => self.limits.upper.along(axis),
+        }
     }
 
-    fn keeps(&self, row: &Row) -> bool
-        requires { row_in_range row.now ≡ true }
-        ensures value { result ≡ keeps_box (limits_of self.now) row.now }
+    /// Whether a motion keeps that limit, where there is one.
+    fn keeps_limit(&self, side: Side, axis: Axis, motion: &Motion) -> bool
+        ensures value { result ≡ keeps_limit side axis (limit_on side axis (limits_of self.now)) (row_of motion.now) }
     {
-        self.keeps_axis(Axis::X, row)
-            && self.keeps_axis(Axis::Y, row)
-            && self.keeps_axis(Axis::Z, row)
+        match self.limit(side, axis) {
+            None => true,
+            Some(limit) => {
+                let factor = side.factor();
+                let edge = Edge {
+                    normal: Axes::alike(0).with(axis, factor),
+                    limit: factor * limit,
+                };
+                edge.keeps(motion)
+            }
+        }
+    }
+
+    /// Whether it keeps both limits of an axis.
+    fn keeps_axis(&self, axis: Axis, motion: &Motion) -> bool
+        ensures value { result ≡ keeps_axis (limits_of self.now) axis (row_of motion.now) }
+    {
+        self.keeps_limit(Side::Lower, axis, motion) && self.keeps_limit(Side::Upper, axis, motion)
+    }
+
+    /// Whether it keeps all limits.
+    fn keeps(&self, motion: &Motion) -> bool
+        ensures value { result ≡ keeps_box (limits_of self.now) (row_of motion.now) }
+    {
+        self.keeps_axis(Axis::X, motion)
+            && self.keeps_axis(Axis::Y, motion)
+            && self.keeps_axis(Axis::Z, motion)
     }
 }
 
@@ -58,6 +61,6 @@ impl Area for LimitBox {
     ghost contains = { λ b p. InBox (limits_of b) p };
 
     fn admits(&self, motion: &Motion) -> bool {
-        self.keeps(&motion.row())
+        self.keeps(motion)
     }
 }

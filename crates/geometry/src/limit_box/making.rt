@@ -1,60 +1,30 @@
 //! A box is made from limits in range.
 ghost use Rattle.std.specs.Prelude.{◌≡◌};
 ghost use Rattle.geometry.specs.Model.{limits_of};
-ghost use Rattle.geometry.specs.Settings.{each_present_within, box_taken, replaced as replaced_on, with_limit};
+ghost use Rattle.geometry.specs.Settings.{box_taken, with_limit};
 ghost use Rattle.motions.specs.Ranges.{present_within, position_range};
 ghost use Rattle.motions.specs.Settings.{Taken};
 
 use super::LimitBox;
-use motions::axes::{Axes, Axis};
+use motions::axes::Axis;
 use motions::limits::Limits;
-use motions::ranges::{POSITION_RANGE, present_within};
+use motions::ranges::{POSITION_RANGE, Ranged};
 use motions::refusal::Refusal;
 
-fn each_present_within(limits: &Axes<Option<i32>>) -> bool
-    ensures value { result ≡ each_present_within limits.now }
-{
-    present_within(POSITION_RANGE, limits.x)
-        && present_within(POSITION_RANGE, limits.y)
-        && present_within(POSITION_RANGE, limits.z)
-}
-
-/// The limits of one side with that of one axis changed.
-fn replaced(axis: Axis, limit: Option<i32>, side: Axes<Option<i32>>) -> Axes<Option<i32>>
-    ensures value { result ≡ replaced_on axis limit side }
-{
-    match axis {
-        Axis::X => Axes {
-            x: limit,
-            y: side.y,
-            z: side.z,
-        },
-        Axis::Y => Axes {
-            x: side.x,
-            y: limit,
-            z: side.z,
-        },
-        Axis::Z => Axes {
-            x: side.x,
-            y: side.y,
-            z: limit,
-        },
-    }
-}
-
 /// The limits with one of them changed.
+// `upper` stays a bool, as the setting that it comes from asks for it, and here it only tells which of two fields is written.
 fn with_limit(upper: bool, axis: Axis, limit: Option<i32>, limits: Limits) -> Limits
     ensures value { result ≡ with_limit upper axis limit limits }
 {
     if upper {
         Limits {
-            lower: limits.lower,
-            upper: replaced(axis, limit, limits.upper),
+            upper: limits.upper.with(axis, limit),
+            ..limits
         }
     } else {
         Limits {
-            lower: replaced(axis, limit, limits.lower),
-            upper: limits.upper,
+            lower: limits.lower.with(axis, limit),
+            ..limits
         }
     }
 }
@@ -64,7 +34,7 @@ impl LimitBox {
     pub fn new(limits: Limits) -> Result<LimitBox, Refusal>
         ensures value { Taken (box_taken limits) (λ b. limits_of b ≡ limits) result }
     {
-        if each_present_within(&limits.lower) && each_present_within(&limits.upper) {
+        if limits.lower.within(POSITION_RANGE) && limits.upper.within(POSITION_RANGE) {
             Ok(LimitBox { limits })
         } else {
             Err(Refusal::setting())
@@ -75,7 +45,7 @@ impl LimitBox {
     pub fn with(&self, upper: bool, axis: Axis, limit: Option<i32>) -> Result<LimitBox, Refusal>
         ensures value { Taken (present_within position_range limit) (λ b. limits_of b ≡ with_limit upper axis limit (limits_of self.now)) result }
     {
-        if !present_within(POSITION_RANGE, limit) {
+        if !limit.within(POSITION_RANGE) {
             return Err(Refusal::setting());
         }
         let limits = with_limit(upper, axis, limit, self.limits);
