@@ -7,9 +7,10 @@ ghost use Rattle.reading.specs.Lines.{in_line, lines_of, all_short, limits, byte
 use crate::line::TextLine;
 use crate::program::MOST_LINES;
 
-/// How many bytes a text has at most, and how many a line has.
+/// How many bytes a text has at most.
 const MOST_BYTES: usize = 65_536;
 
+/// How many bytes a line has at most.
 const LINE_BYTES: usize = 512;
 
 /// What ends a line.
