@@ -1,6 +1,6 @@
 //! The ranges of the numbers that are handed in, and the tests of them.
 ghost use Rattle.std.specs.Prelude.{◌≡◌, ℕ, Bool};
-ghost use Rattle.motions.specs.Ranges.{within as is_within, each, present, each_within, present_within};
+ghost use Rattle.motions.specs.Ranges.{within as is_within, each, present};
 
 use crate::axes::Axes;
 
@@ -26,28 +26,13 @@ pub trait Ranged {
         ensures value { result ≡ lies bound self.now };
 }
 
-impl Ranged for i128 {
-    ghost lies = { λ b z. is_within b z };
-
-    fn within(&self, bound: u32) -> bool {
-        let bound = i128::from(bound);
-        -bound <= *self && *self <= bound
-    }
-}
-
-impl Ranged for i64 {
-    ghost lies = { λ b z. is_within b z };
-
-    fn within(&self, bound: u32) -> bool {
-        i128::from(*self).within(bound)
-    }
-}
-
 impl Ranged for i32 {
     ghost lies = { λ b z. is_within b z };
 
     fn within(&self, bound: u32) -> bool {
-        i64::from(*self).within(bound)
+        let bound = i64::from(bound);
+        let number = i64::from(*self);
+        -bound <= number && number <= bound
     }
 }
 
@@ -70,25 +55,4 @@ impl<T: Ranged> Ranged for Axes<T> {
     fn within(&self, bound: u32) -> bool {
         self.x.within(bound) && self.y.within(bound) && self.z.within(bound)
     }
-}
-
-/// Whether a number lies from -bound to bound.
-pub fn within(bound: u32, number: i32) -> bool
-    ensures value { result ≡ is_within bound number }
-{
-    number.within(bound)
-}
-
-/// Whether each of three numbers does.
-pub fn each_within(bound: u32, numbers: &Axes<i32>) -> bool
-    ensures value { result ≡ each_within bound numbers.now }
-{
-    numbers.within(bound)
-}
-
-/// Whether a number does, where there is one.
-pub fn present_within(bound: u32, number: Option<i32>) -> bool
-    ensures value { result ≡ present_within bound number }
-{
-    number.within(bound)
 }

@@ -48,6 +48,7 @@ impl Reason {
     pub fn number(self) -> u8
         ensures value { result ≡ number_of self }
     {
+        // Rust has no other way from a variant to its number
         self as u8
     }
 }

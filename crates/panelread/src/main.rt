@@ -13,6 +13,18 @@ use std::io::Read;
 /// One byte more than a text may have: enough to see that it has too many.
 const ENOUGH: u64 = 65_537;
 
+/// Writes the canonical form of every line of a read program.
+fn list(rt: &HostRuntime, program: &Program<'_>) -> anyhow::Result<()> {
+    for held in program.lines() {
+        let line = Shown {
+            text: program.up_to(*held),
+            said: held.line,
+        };
+        println!(rt; "{line}")?;
+    }
+    Ok(())
+}
+
 fn run(rt: &HostRuntime) -> anyhow::Result<()> {
     let heap = rt.alloc();
     let mut text = Vec::new(heap);
@@ -22,14 +34,7 @@ fn run(rt: &HostRuntime) -> anyhow::Result<()> {
         println!(rt; "{refusal}")?;
         return Ok(());
     }
-    for held in program.lines() {
-        let line = Shown {
-            text: program.up_to(*held),
-            said: held.line,
-        };
-        println!(rt; "{line}")?;
-    }
-    Ok(())
+    list(rt, &program)
 }
 
 fn main(rt: HostRuntime) -> anyhow::Result<()> {
