@@ -7,11 +7,9 @@ mod sum;
 mod words;
 
 use pieces::Shown;
+use reading::lines::ENOUGH;
 use reading::program::Program;
 use std::io::Read;
-
-/// One byte more than a text may have: enough to see that it has too many.
-const ENOUGH: u64 = 65_537;
 
 /// Writes the canonical form of every line of a read program.
 fn list(rt: &HostRuntime, program: &Program<'_>) -> anyhow::Result<()> {

@@ -1,11 +1,9 @@
 //! Writes the trace of a part program from standard input, as the rules make it in the sample shop. No area is asked, so nothing is judged here.
 #![tactic(auto)]
 
+use reading::lines::ENOUGH;
 use std::io::Read;
 use tracelist::telling::tell;
-
-/// One byte more than a text may have: enough to see that it has too many.
-const ENOUGH: u64 = 65_537;
 
 fn run(rt: &HostRuntime) -> anyhow::Result<()> {
     let mut text = Vec::new(rt.alloc());

@@ -7,6 +7,9 @@ ghost use Rattle.reading.specs.Lines.{in_line, lines_of, all_short, limits, byte
 use crate::line::TextLine;
 use crate::program::MOST_LINES;
 
+/// How many bytes tell whether a text is too large: one more than it may have.
+pub const ENOUGH: u64 = 65_537;
+
 /// How many bytes a text has at most.
 const MOST_BYTES: usize = 65_536;
 
