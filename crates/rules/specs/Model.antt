@@ -15,7 +15,7 @@
 --     state_in r, left_in r, event_in r a  where a run stands, how many more lines may run, and what a line came to that it answered a
 --     Counted r t a      a line that was not refused counts as run; a refused one leaves the run as it was
 --     Unchanged s t r    where r is a refusal, the state t stands for what s stood for before it
-use Rattle.std.specs.Prelude.{◌≡◌, ℕ, zero, suc, ◌+◌, ◌<◌, Bool, true, false, cond, ◌&&◌, List, [], ◌∷◌, length, ℤ, Some, None, Ok, Err, Option, Result, slice_index_or}
+use Rattle.std.specs.Prelude.{◌≡◌, ℕ, zero, suc, ◌+◌, ◌<◌, Bool, cond, ◌&&◌, List, [], ◌∷◌, length, ℤ, Some, None, Ok, Err, Option, Result, slice_index_or}
 use Rattle.std.specs.Option.{option_map}
 use Rattle.motions.specs.declared.axes.Axes.{Axes}
 use Rattle.algebra.specs.declared.vector.Vector.{Vector}

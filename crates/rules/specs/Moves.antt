@@ -13,7 +13,7 @@
 --     moves ws s         the line's motion
 --     acts ws s          what the line does: its functions first; an axis word, or I, J or K, makes a motion
 use Rattle.std.specs.Prelude.{ℕ, ◌+◌, Bool, true, false, cond, not, ◌||◌, ℤ, pos, ◌+ℤ◌, is_some, Some, None, Option, ◌==◌, nat_le}
-use Rattle.std.specs.Option.{option_map, unwrap_or}
+use Rattle.std.specs.Option.{unwrap_or}
 use Rattle.algebra.specs.declared.vector.Vector.{Vector}
 use Rattle.motions.specs.declared.axes.Axes.{Axes}
 use Rattle.motions.specs.declared.axes.Axis.{Axis}
