@@ -5,8 +5,6 @@ use rules::run::Made;
 
 mod recording;
 
-/// How many motions a run makes at most.
-pub(crate) const MOST_MOTIONS: usize = 1000;
 
 /// The motions that a run made, in order. There is room for those of any run.
 #[derive(Drop)]

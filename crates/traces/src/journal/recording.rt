@@ -6,9 +6,9 @@ ghost use Rattle.traces.specs.Model.{recorded, noted, with_next, HasRoom, counte
 ghost use Rattle.std.specs.Option.{option_map};
 ghost use Rattle.traces.specs.Traces.{trace as trace_is};
 
-use super::{Journal, MOST_MOTIONS};
+use super::Journal;
 use motions::refusal::Refusal;
-use rules::run::{Made, Run, Setup};
+use rules::run::{MOST_MOTIONS, Made, Run, Setup};
 use rules::source::Source;
 use std::alloc::{AllocError, Global};
 
