@@ -1,5 +1,5 @@
 -- The rows of open repeats as a list, the last one opened first. Assumes nothing.
-use Rattle.std.proofs.Common.{◌≡◌, ℕ, zero, suc, ◌+◌, ◌-◌, ◌<◌, ◌≤◌, ◌≢◌, List, ◌∷◌, length, get_or, set, refl, ap, ◌∙◌, add-one, arith}
+use Rattle.std.proofs.Common.{◌≡◌, ℕ, zero, suc, ◌+◌, ◌<◌, ◌≤◌, ◌≢◌, List, ◌∷◌, length, set, refl, ap, ◌∙◌, add-one, arith}
 use Rattle.std.proofs.lemmas.List.{get_or-set_same, get_or-set_other}
 use Rattle.rules.specs.declared.state.Repeat.{Repeat}
 use Rattle.rules.specs.Model.{stacked, no_repeat}
@@ -20,3 +20,5 @@ pushed rows n y h = ap (stacked (set rows n y)) (add-one n) ∙ replaced rows n 
 pub deep : (rows : List Repeat) (n : ℕ) → length (stacked rows n) ≡ n
 deep rows zero = refl
 deep rows (suc n) = ap suc (deep rows n)
+
+pub ruleset opened = (pushed, deep)

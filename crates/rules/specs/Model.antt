@@ -2,6 +2,7 @@
 --     in_reach b z       the number z, where it lies from -b to b
 --     each_in_reach t    the three of t, where each is a coordinate in range
 --     centre_in_reach, kind_in_reach, row_in_reach  the same of a centre, of the centre of an arc, of the end and the centre of a row
+--     row_at s f ws, misplaced_at s ws   the row of the line ws made from where s stands, f counting, and whether I, J or K is misplaced in it
 --     Judged wrong m r   r is what is answered to the row m, misplaced words or not: its motion, or its fault
 --     open_of o          the open repeats, the last one opened first
 --     last_of os, before_last os   the last one opened, and the others
@@ -14,7 +15,7 @@
 --     state_in r, left_in r, event_in r a  where a run stands, how many more lines may run, and what a line came to that it answered a
 --     Counted r t a      a line that was not refused counts as run; a refused one leaves the run as it was
 --     Unchanged s t r    where r is a refusal, the state t stands for what s stood for before it
-use Rattle.std.specs.Prelude.{◌≡◌, ℕ, zero, suc, ◌+◌, ◌<◌, Bool, true, false, cond, ◌&&◌, List, [], ◌∷◌, length, ℤ, Some, None, Ok, Err, Option, Result, slice_index_or}
+use Rattle.std.specs.Prelude.{◌≡◌, ℕ, zero, suc, ◌+◌, ◌<◌, Bool, cond, ◌&&◌, List, [], ◌∷◌, length, ℤ, Some, None, Ok, Err, Option, Result, slice_index_or}
 use Rattle.std.specs.Option.{option_map}
 use Rattle.motions.specs.declared.axes.Axes.{Axes}
 use Rattle.algebra.specs.declared.vector.Vector.{Vector}
@@ -28,7 +29,9 @@ use Rattle.motions.specs.Ranges.{within, each_within, position_range, centre_ran
 use Rattle.geometry.specs.Model.{limits_of}
 use Rattle.motions.specs.Model.{home_of}
 use Rattle.motions.specs.declared.refusal.Refusal.{Refusal}
+use Rattle.forms.specs.declared.said.Words.{Words}
 use Rattle.rules.specs.declared.open.OpenRepeats.{OpenRepeats}
+use Rattle.rules.specs.declared.paths.Standing.{Standing}
 use Rattle.rules.specs.declared.run.Done.{Done}
 use Rattle.rules.specs.declared.run.Goes.{Goes}
 use Rattle.rules.specs.declared.run.Goes.TheVariants.{On, To}
@@ -37,8 +40,9 @@ use Rattle.rules.specs.declared.run.Run.{Run}
 use Rattle.rules.specs.declared.run.RunState.{RunState}
 use Rattle.rules.specs.declared.run.Setup.{Setup}
 use Rattle.rules.specs.declared.run.Step.{Step}
+use Rattle.rules.specs.declared.state.Frame.{Frame}
 use Rattle.rules.specs.declared.state.Repeat.{Repeat}
-use Rattle.rules.specs.Moves.{fault_by, after}
+use Rattle.rules.specs.Moves.{misplaced, row_from, fault_by, after}
 use Rattle.rules.specs.State as rules
 use Rattle.rules.specs.Steps.{most_repeats}
 
@@ -59,6 +63,12 @@ kind_in_reach k = cond (centre_in_range k) (Some k) None
 
 abbrev pub row_in_reach : Row → Option Row
 row_in_reach m = cond (each_within position_range m.end && centre_in_range m.kind) (Some m) None
+
+abbrev pub row_at : Standing → Frame → Words ℤ → Row
+row_at s f ws = row_from s.functions.now f s.zeros.now s.at ws
+
+abbrev pub misplaced_at : Standing → Words ℤ → Bool
+misplaced_at s ws = misplaced s.functions.now.interpolation s.functions.now.plane ws.centres
 
 abbrev pub Judged : Bool → Row → Result Motion Reason → Type 0
 Judged wrong m (Ok made) = (fault_by wrong m ≡ None) × (row_is made ≡ m)

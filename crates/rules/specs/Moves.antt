@@ -13,7 +13,7 @@
 --     moves ws s         the line's motion
 --     acts ws s          what the line does: its functions first; an axis word, or I, J or K, makes a motion
 use Rattle.std.specs.Prelude.{ℕ, ◌+◌, Bool, true, false, cond, not, ◌||◌, ℤ, pos, ◌+ℤ◌, is_some, Some, None, Option, ◌==◌, nat_le}
-use Rattle.std.specs.Option.{option_map, unwrap_or}
+use Rattle.std.specs.Option.{unwrap_or}
 use Rattle.algebra.specs.declared.vector.Vector.{Vector}
 use Rattle.motions.specs.declared.axes.Axes.{Axes}
 use Rattle.motions.specs.declared.axes.Axis.{Axis}
@@ -35,7 +35,7 @@ use Rattle.forms.specs.declared.said.Measure.TheVariants.{Absolute, Incremental}
 use Rattle.forms.specs.declared.said.Slot.{Slot}
 use Rattle.forms.specs.declared.said.Slot.TheVariants.{G500, G54, G55, G56, G57}
 use Rattle.rules.specs.declared.state.Zeros.{Zeros}
-use Rattle.rules.specs.Values.{Each}
+use Rattle.forms.specs.Words.{Each}
 use Rattle.rules.specs.State.{State, Made, Event, goes, ends, origin, no_frame, refuse_motion, with_modal, due_at, moved_to}
 
 -- ---- the functions of a line

@@ -26,7 +26,8 @@ use Rattle.forms.specs.declared.said.Statement.TheVariants as say
 use Rattle.forms.specs.declared.said.Target.TheVariants.{Label}
 use Rattle.forms.specs.declared.said.Test.{Test}
 use Rattle.rules.specs.declared.state.Repeat.{Repeat}
-use Rattle.rules.specs.Values.{Each, value, valued}
+use Rattle.forms.specs.Words.{Each}
+use Rattle.rules.specs.Values.{value, valued}
 use Rattle.forms.specs.Numbered.{numbered}
 use Rattle.rules.specs.Targets.{Said, target}
 use Rattle.rules.specs.State.{Modal, State, Event, refused, origin, refuse, or_refuse, with_modal, with_repeats, goto, next}

@@ -1,5 +1,4 @@
 -- What the sums of a line are worth. Assumes nothing.
---     Each V             a V for each axis that is named
 --     value ps s         what the sum s is worth where ps are the R parameters; None where a partial result is beyond its range
 --     optional f o       f of what may be missing: no failure where it is missing
 --     each f a           f of each that is named; None where it fails at one
@@ -7,16 +6,13 @@
 --     named g st         the statement st with g of each of its names
 use Rattle.std.specs.Prelude.{List, ℤ, pos, Some, None, Option}
 use Rattle.sums.specs.Sums.{Sum, total, ◌>>=◌}
-use Rattle.motions.specs.declared.axes.Axes.{Axes}
 use Rattle.forms.specs.declared.said.Statement.{Statement}
 use Rattle.forms.specs.declared.said.Statement.TheVariants as say
 use Rattle.forms.specs.declared.said.Target.{Target}
 use Rattle.forms.specs.declared.said.Target.TheVariants as to
 use Rattle.forms.specs.declared.said.Test.{Test}
 use Rattle.forms.specs.declared.said.Words.{Words}
-
-abbrev pub Each : Type 0 → Type 0
-Each V = Axes (Option V)
+use Rattle.forms.specs.Words.{Each}
 
 abbrev pub value : List ℤ → Sum → Option ℤ
 value ps s = total ps (Some (pos 0)) s

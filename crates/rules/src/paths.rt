@@ -1,9 +1,9 @@
 //! The motion that a line of words makes.
 ghost use Rattle.std.specs.Prelude.{◌≡◌};
 ghost use Rattle.motions.specs.Ranges.{centre_range};
-ghost use Rattle.rules.specs.Moves.{centre_along as centre_along_is, centre_of, kind_of, misplaced as misplaced_by, row_from, framed as framed_by, counted};
+ghost use Rattle.rules.specs.Moves.{centre_along as centre_along_is, centre_of, kind_of, misplaced as misplaced_by, framed as framed_by, counted};
 ghost use Rattle.rules.specs.State.{no_frame};
-ghost use Rattle.rules.specs.Model.{in_reach as within_reach, centre_in_reach, kind_in_reach, row_in_reach, Judged};
+ghost use Rattle.rules.specs.Model.{in_reach as within_reach, centre_in_reach, kind_in_reach, row_in_reach, row_at, misplaced_at, Judged};
 
 use crate::ends::in_reach;
 use crate::functions::framed;
@@ -77,7 +77,7 @@ impl Standing<'_> {
 
     /// The numbers of the line's motion, if its end and centre are in range.
     fn row(&self, frame: &Frame, words: &Words<Amount>) -> Option<Row>
-        ensures value { result ≡ row_in_reach (row_from self.now.functions.now frame.now self.now.zeros.now self.now.at words.now) }
+        ensures value { result ≡ row_in_reach (row_at self.now frame.now words.now) }
     {
         let end = self.end(frame, &words.axes)?;
         let kind = self.kind(&words.centres)?;
@@ -90,7 +90,7 @@ impl Standing<'_> {
 
     /// The line's motion from where the tool stands, or why it makes none.
     fn motion(&self, frame: &Frame, words: &Words<Amount>) -> Result<Motion, Reason>
-        ensures value { Judged (misplaced_by self.now.functions.now.interpolation self.now.functions.now.plane words.now.centres) (row_from self.now.functions.now frame.now self.now.zeros.now self.now.at words.now) result }
+        ensures value { Judged (misplaced_at self.now words.now) (row_at self.now frame.now words.now) result }
     {
         let row = self.row(frame, words).ok_or(Reason::MotionRange)?;
         let motion = Motion::from_row(&row)?;
@@ -102,7 +102,7 @@ impl Standing<'_> {
 
     /// The motion of a line with G53: zero and shift count as 0, and stand again after it.
     fn bare_motion(&self, frame: &mut Frame, words: &Words<Amount>) -> Result<Motion, Reason>
-        ensures value { Judged (misplaced_by self.now.functions.now.interpolation self.now.functions.now.plane words.now.centres) (row_from self.now.functions.now no_frame self.now.zeros.now self.now.at words.now) result }
+        ensures value { Judged (misplaced_at self.now words.now) (row_at self.now no_frame words.now) result }
         ensures stands { frame.new ≡ frame.old }
     {
         let saved = *frame;
@@ -117,7 +117,7 @@ impl Standing<'_> {
         frame: &mut Frame,
         words: &Words<Amount>,
     ) -> Result<Motion, Reason>
-        ensures value { Judged (misplaced_by self.now.functions.now.interpolation self.now.functions.now.plane words.now.centres) (row_from self.now.functions.now (counted words.now (framed_by words.now frame.old)) self.now.zeros.now self.now.at words.now) result }
+        ensures value { Judged (misplaced_at self.now words.now) (row_at self.now (counted words.now (framed_by words.now frame.old)) words.now) result }
         ensures stands { frame.new ≡ frame.old }
     {
         if words.groups.g53 {

@@ -24,6 +24,7 @@ impl OpenRepeats {
     }
 
     /// Opens a repeat, if there is room for one; else nothing changes.
+    #[tactic(auto, using(crate::proofs::Stacked::opened))]
     pub(crate) fn open(&mut self, repeat: Repeat) -> Result<(), Full>
         ensures value { Opened repeat (open_of self.old) (open_of self.new) result }
         ensures same { OnErr result (self.new ≡ self.old) }
@@ -37,6 +38,7 @@ impl OpenRepeats {
     }
 
     /// Puts a repeat in the place of the last one opened, if one is open.
+    #[tactic(auto, using(crate::proofs::Stacked::replaced))]
     pub(crate) fn replace_last(&mut self, repeat: Repeat)
         ensures value { open_of self.new ≡ with_last repeat (open_of self.old) }
     {

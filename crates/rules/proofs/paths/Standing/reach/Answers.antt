@@ -10,7 +10,7 @@ use Rattle.rules.specs.declared.state.Frame.{Frame}
 use Rattle.rules.specs.declared.state.Zeros.{Zeros}
 use Rattle.rules.specs.Model.{in_reach}
 use Rattle.rules.specs.Moves.{zero_of, goal_of, end_of}
-use Rattle.rules.specs.Values.{Each}
+use Rattle.forms.specs.Words.{Each}
 use Rattle.rules.proofs.paths.Standing.reach.Goals as goal
 
 along_end : (a : Axis) (m : Measure) (f : Frame) (z : Zeros) (at : Axes ℤ) (v : Each ℤ)
