@@ -1,2 +1,1 @@
 mod Gather
-mod Names

@@ -4,6 +4,7 @@
 --     signed_of           reads what follows an axis letter that no number follows directly: a sign and a number, or = and a sum
 --     one_word t          reads the word that begins with the token t
 --     all_words ts        the words from here to the end of the line
+--     axes_line ts        the axis words, where the line has no others
 --     limits_line upper, dwell_line, shift_line adds, assign_line n, jump_line forward test, if_line, repeat_line
 --                         what follows G25 or G26, G4, TRANS or ATRANS, R and the number n, GOTOF or GOTOB, IF, REPEAT
 --     statement_of ts     what a line says after its number and its label
@@ -20,7 +21,7 @@ use Rattle.lexer.specs.declared.symbols.Mark.{Mark}
 use Rattle.lexer.specs.declared.symbols.Mark.TheVariants.{Plus, Minus, Equals, Opening, Closing, Colon, Same, Differs, Less, Greater, AtMost, AtLeast}
 use Rattle.forms.specs.Kinds.{kind_of, command_of, function_of}
 use Rattle.sums.specs.Sums.{Sum, single, Reading, ◌>>=◌, pick, is_the, take_mark, sign_of, sum_of}
-use Rattle.forms.specs.Words.{no_words, entered, only_axes, some_axis}
+use Rattle.forms.specs.Words.{Each, no_words, entered, only_axes, some_axis}
 use Rattle.forms.specs.declared.kinds.Kind.{Kind}
 use Rattle.forms.specs.declared.kinds.Kind.TheVariants.{Axis as OfAxis, Centre as OfCentre, Feed as OfFeed, Speed as OfSpeed, Tool as OfTool, Action as OfAction, Function as OfFunction}
 use Rattle.forms.specs.declared.kinds.Command.{Command}
@@ -161,11 +162,14 @@ Says = Option (Statement Sum Named)
 abbrev pub words_line : List Token → Says
 words_line ts = all_words ts >>= (λ ws. Some (say.Words ws))
 
+abbrev pub axes_line : List Token → Option (Each Sum)
+axes_line ts = all_words ts >>= only_axes
+
 abbrev pub limits_line : Bool → List Token → Says
-limits_line upper ts = all_words ts >>= (λ ws. only_axes ws >>= (λ a. some_axis a >>= (λ b. Some (say.Limits upper b))))
+limits_line upper ts = axes_line ts >>= (λ a. some_axis a >>= (λ b. Some (say.Limits upper b)))
 
 abbrev pub shift_line : Bool → List Token → Says
-shift_line adds ts = all_words ts >>= (λ ws. only_axes ws >>= (λ a. Some (say.Shift adds a)))
+shift_line adds ts = axes_line ts >>= (λ a. Some (say.Shift adds a))
 
 abbrev pub pause_by : Kind → Num → Option Pause
 pause_by (OfAxis a) n = None

@@ -79,7 +79,7 @@ pub(crate) fn target(c: Cursor<'_>) -> Option<(Target<Place>, Cursor<'_>)>
 }
 
 impl Command {
-    /// Which way a jump command goes: true for forward.
+    /// Which way a jump command goes: true for forward. It is no `TryFrom`, since a way is not what a command is.
     fn heading(self) -> Option<bool>
         ensures value { result ≡ direction self }
     {
@@ -103,7 +103,7 @@ pub(crate) fn forward(c: Cursor<'_>) -> Option<(bool, Cursor<'_>)>
 }
 
 impl Comparison {
-    /// The comparison that a mark is, if it is one.
+    /// The comparison that a mark is, if it is one. It is no `TryFrom`, since all that is said of another mark is that it is none.
     fn of(m: Mark) -> Option<Comparison>
         ensures value { result ≡ mark_comparison m }
     {

@@ -7,8 +7,9 @@ use motions::row::Turn;
 /// A value for each axis that is named.
 pub type Named<V> = Axes<Option<V>>;
 
-/// A name's place in the text: where it begins, and how many bytes it has.
-#[derive(Clone, Copy, Drop, PartialEq, Eq)]
+/// A name's place in the text: where it begins, and how many bytes it has. It is no slice of the text, since the room for
+/// labels is made once and filled anew from one text after another, so that what it holds can't borrow from one of them.
+#[derive(Clone, Copy, Debug, Drop, PartialEq, Eq)]
 pub struct Place {
     pub from: usize,
     pub length: usize,
@@ -38,14 +39,14 @@ pub enum Interpolation {
 }
 
 /// G90 and G91: whether the value of an axis says where it goes or how far.
-#[derive(Clone, Copy, Drop, PartialEq, Eq)]
+#[derive(Clone, Copy, Debug, Drop, PartialEq, Eq)]
 pub enum Measure {
     Absolute,
     Incremental,
 }
 
 /// Which of the zero points counts; G500 is none.
-#[derive(Clone, Copy, Drop, PartialEq, Eq)]
+#[derive(Clone, Copy, Debug, Drop, PartialEq, Eq)]
 pub enum Slot {
     G500,
     G54,
@@ -83,7 +84,7 @@ pub struct Words<V> {
 }
 
 /// How an IF compares its two sums.
-#[derive(Clone, Copy, Drop, PartialEq, Eq)]
+#[derive(Clone, Copy, Debug, Drop, PartialEq, Eq)]
 pub enum Comparison {
     Same,
     Differs,
@@ -94,7 +95,7 @@ pub enum Comparison {
 }
 
 /// The comparison after IF.
-#[derive(Clone, Copy, Drop, PartialEq, Eq)]
+#[derive(Clone, Copy, Debug, Drop, PartialEq, Eq)]
 pub struct Test<V> {
     pub left: V,
     pub how: Comparison,
@@ -102,14 +103,14 @@ pub struct Test<V> {
 }
 
 /// Where a jump goes: to a label, or to a line's N number.
-#[derive(Clone, Copy, Drop, PartialEq, Eq)]
+#[derive(Clone, Copy, Debug, Drop, PartialEq, Eq)]
 pub enum Target<N> {
     Label(N),
     Number(u32),
 }
 
 /// What G4 waits for: a time, or turns of the spindle.
-#[derive(Clone, Copy, Drop, PartialEq, Eq)]
+#[derive(Clone, Copy, Debug, Drop, PartialEq, Eq)]
 pub enum Pause {
     Feed(u64),
     Speed(u64),

@@ -2,12 +2,12 @@
 ghost use Rattle.std.specs.Prelude.{◌≡◌};
 ghost use Rattle.std.specs.Option.{option_map};
 ghost use Rattle.lexer.specs.Model.{ahead, num_is};
-ghost use Rattle.forms.specs.Forms.{ended, words_line, limits_line, shift_line, dwell_line, assign_line, jump_line, if_line, repeat_line, function_line, command_line, statement_of};
-ghost use Rattle.forms.specs.Model.{test_is, statement_is};
+ghost use Rattle.forms.specs.Forms.{ended, words_line, axes_line, limits_line, shift_line, dwell_line, assign_line, jump_line, if_line, repeat_line, function_line, command_line, statement_of};
+ghost use Rattle.forms.specs.Model.{axes_is, test_is, statement_is};
 
 use crate::kinds::{Command, Kind};
 use crate::parts::{forward, name, pause, target, test_at, times};
-use crate::said::{Place, Statement, Test};
+use crate::said::{Named, Place, Statement, Test};
 use crate::word::{at_end, words};
 use lexer::cursor::Cursor;
 use lexer::number::Number;
@@ -34,11 +34,19 @@ fn plain(c: Cursor<'_>) -> Option<Statement<Value, Place>>
     Some(Statement::Words(words(c)?))
 }
 
+/// The axis words up to the end of the line, where no others stand there.
+#[tactic(auto, using(crate::proofs::Gather::only_axes_said))]
+fn axes(c: Cursor<'_>) -> Option<Named<Value>>
+    ensures value { axes_line (ahead c.entry) ≡ option_map (axes_is c.entry.line.now) result }
+{
+    words(c)?.only_axes()
+}
+
 /// What follows G25, or G26 for the upper limits.
 fn limits(c: Cursor<'_>, upper: bool) -> Option<Statement<Value, Place>>
     ensures value { limits_line upper (ahead c.entry) ≡ option_map (statement_is c.entry.line.now) result }
 {
-    let axes = words(c)?.only_axes()?;
+    let axes = axes(c)?;
     if axes.is_empty() {
         return None;
     }
@@ -49,7 +57,7 @@ fn limits(c: Cursor<'_>, upper: bool) -> Option<Statement<Value, Place>>
 fn shift(c: Cursor<'_>, adds: bool) -> Option<Statement<Value, Place>>
     ensures value { shift_line adds (ahead c.entry) ≡ option_map (statement_is c.entry.line.now) result }
 {
-    let axes = words(c)?.only_axes()?;
+    let axes = axes(c)?;
     Some(Statement::Shift { adds, axes })
 }
 

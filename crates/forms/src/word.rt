@@ -4,6 +4,7 @@ ghost use Rattle.std.specs.Option.{option_map};
 ghost use Rattle.lexer.specs.Tokens.{first, rest};
 ghost use Rattle.lexer.specs.Model.{ahead, num_is};
 ghost use Rattle.forms.specs.Forms.{is_end, signed_of, alone, word_of, spaced_of, area_of, one_word, all_words};
+ghost use Rattle.forms.specs.declared.said.Word.TheVariants.{Area};
 ghost use Rattle.sums.specs.Model.{value_is};
 ghost use Rattle.forms.specs.Model.{read_by, Past, word_is, words_is};
 
@@ -17,8 +18,9 @@ use sums::marks::{sign, take};
 use sums::reading::sum_end;
 use sums::value::Value;
 
+/// How many digits T takes at most.
 const TOOL_DIGITS: usize = 4;
-
+/// How many digits M takes at most.
 const ACTION_DIGITS: usize = 2;
 
 /// What follows an axis letter that no number follows directly, and the cursor after it.
@@ -60,8 +62,13 @@ fn attached(kind: Kind, n: Number<'_>) -> Option<Word<Value>>
     match kind {
         Kind::Axis(_) | Kind::Centre(_) => {
             let thousandths = n.thousandths()?;
-            let minus = false;
-            valued(kind, Value::Number { minus, thousandths })
+            valued(
+                kind,
+                Value::Number {
+                    minus: false,
+                    thousandths,
+                },
+            )
         }
         Kind::Feed => Some(Word::Feed(n.thousandths()?)),
         Kind::Speed => Some(Word::Speed(n.thousandths()?)),
@@ -80,14 +87,16 @@ fn apart(kind: Kind, c: Cursor<'_>) -> Option<(Word<Value>, Cursor<'_>)>
     Some((valued(kind, value)?, next))
 }
 
-/// The word that WALIMON or WALIMOF is.
-fn area(command: Command) -> Option<Word<Value>>
-    ensures value { (line : List ℕ) → area_of command ≡ option_map (word_is line) result }
-{
-    match command {
-        Command::Walimon => Some(Word::Area(true)),
-        Command::Walimof => Some(Word::Area(false)),
-        _ => None,
+impl Command {
+    /// Whether the command turns the working area on, or off; nothing where it does neither.
+    fn area(self) -> Option<bool>
+        ensures value { area_of self ≡ option_map (λ on. Area on) result }
+    {
+        match self {
+            Command::Walimon => Some(true),
+            Command::Walimof => Some(false),
+            _ => None,
+        }
     }
 }
 
@@ -98,7 +107,7 @@ fn word(c: Cursor<'_>) -> Option<(Word<Value>, Cursor<'_>)>
 {
     let (t, next) = c.token();
     match t {
-        Token::Name(n) => Some((area(Command::of(n)?)?, next)),
+        Token::Name(n) => Some((Word::Area(Command::of(n)?.area()?), next)),
         Token::Word(l, n) => Some((attached(Kind::of(l)?, n)?, next)),
         Token::Letter(l) => apart(Kind::of(l)?, next),
         _ => None,

@@ -4,7 +4,10 @@ use lib.Seq.{take-append-le}
 use Rattle.std.specs.List.{prefix_len}
 use Rattle.std.specs.Option.{option_map}
 use Rattle.std.proofs.lemmas.List.Sums.{prefix_len-le-length}
-use Rattle.std.proofs.lemmas.List.{take-take, length-take-le}
+use Rattle.std.proofs.Math.ListN.{get_or-map}
+use Rattle.std.proofs.lemmas.List.{take-map, drop-map, take-take, length-take-le}
+use Rattle.std.proofs.lemmas.Simd.{map-map}
+use Rattle.std.proofs.lemmas.Str.Ascii.{lowercase-lowercase}
 use Rattle.std.proofs.lemmas.Bool.{and_parts}
 use Rattle.std.proofs.lemmas.Bool.Decides.{nat_tests}
 use Rattle.std.specs.Char.{to_ascii_lowercase}
@@ -45,9 +48,6 @@ letter_lower c = grind (arith, nat_tests)
 
 underscore_lower : (c : ℕ) → eqb (to_ascii_lowercase c) 95 ≡ eqb c 95
 underscore_lower c = grind (arith, nat_tests)
-
-lower_lower : (c : ℕ) → to_ascii_lowercase (to_ascii_lowercase c) ≡ to_ascii_lowercase c
-lower_lower c = grind (arith, nat_tests)
 
 digit_fixed : (c : ℕ) → is_digit c ≡ true → to_ascii_lowercase c ≡ c
 digit_fixed c e = grind (arith, nat_tests)
@@ -92,43 +92,24 @@ pub prefix_lower : (p : ℕ → Bool) → ((c : ℕ) → p (to_ascii_lowercase c
 prefix_lower p h [] = refl
 prefix_lower p h (c ∷ cs) = λ j. cond (h c j) (1 + prefix_lower p h cs j) 0
 
-take_lower : (n : ℕ) (s : List ℕ) → take n (map to_ascii_lowercase s) ≡ map to_ascii_lowercase (take n s)
-take_lower zero s = refl
-take_lower (suc n) [] = refl
-take_lower (suc n) (c ∷ cs) = ap (λ u. to_ascii_lowercase c ∷ u) (take_lower n cs)
-
-drop_lower : (n : ℕ) (s : List ℕ) → drop n (map to_ascii_lowercase s) ≡ map to_ascii_lowercase (drop n s)
-drop_lower zero s = refl
-drop_lower (suc n) [] = refl
-drop_lower (suc n) (c ∷ cs) = drop_lower n cs
-
-get_d_lower : (d : ℕ) → d ≡ to_ascii_lowercase d → (s : List ℕ) (n : ℕ) → get_or (map to_ascii_lowercase s) n d ≡ to_ascii_lowercase (get_or s n d)
-get_d_lower d e [] n = e
-get_d_lower d e (c ∷ cs) zero = refl
-get_d_lower d e (c ∷ cs) (suc n) = get_d_lower d e cs n
-
 fixed : (s : List ℕ) → all_digits s ≡ true → map to_ascii_lowercase s ≡ s
 fixed [] h = refl
 fixed (c ∷ cs) h = λ j. digit_fixed c (and_parts _ _ h).0 j ∷ fixed cs (and_parts _ _ h).1 j
 
-lower_map : (s : List ℕ) → map to_ascii_lowercase (map to_ascii_lowercase s) ≡ map to_ascii_lowercase s
-lower_map [] = refl
-lower_map (c ∷ cs) = λ j. lower_lower c j ∷ lower_map cs j
-
 digits_lower : (s : List ℕ) → take (prefix_len is_digit (map to_ascii_lowercase s)) (map to_ascii_lowercase s) ≡ take (prefix_len is_digit s) s
-digits_lower s = ap (λ n. take n (map to_ascii_lowercase s)) (prefix_lower is_digit digit_lower s) ∙ take_lower (prefix_len is_digit s) s ∙ fixed (take (prefix_len is_digit s) s) (run_digits s)
+digits_lower s = ap (λ n. take n (map to_ascii_lowercase s)) (prefix_lower is_digit digit_lower s) ∙ take-map to_ascii_lowercase (prefix_len is_digit s) s ∙ fixed (take (prefix_len is_digit s) s) (run_digits s)
 
 pointed_lower : (s : List ℕ) → pointed (map to_ascii_lowercase s) ≡ pointed s
-pointed_lower s = λ j. (ap (λ c. eqb c 46) (get_d_lower 0 refl s 0) ∙ eqb_lower 46 (get_or s 0 0) (lit< tt)) j && (ap is_digit (get_d_lower 0 refl s 1) ∙ digit_lower (get_or s 1 0)) j
+pointed_lower s = λ j. (ap (λ c. eqb c 46) (get_or-map to_ascii_lowercase s 0 0) ∙ eqb_lower 46 (get_or s 0 0) (lit< tt)) j && (ap is_digit (get_or-map to_ascii_lowercase s 1 0) ∙ digit_lower (get_or s 1 0)) j
 
 part_lower : (b : Bool) (s : List ℕ) → part_of b (map to_ascii_lowercase s) ≡ part_of b s
-part_lower true s = ap (λ u. Some (take (prefix_len is_digit u) u)) (drop_lower 1 s) ∙ ap (λ u. Some u) (digits_lower (drop 1 s))
+part_lower true s = ap (λ u. Some (take (prefix_len is_digit u) u)) (drop-map to_ascii_lowercase 1 s) ∙ ap (λ u. Some u) (digits_lower (drop 1 s))
 part_lower false s = refl
 
 num_lower : (s : List ℕ) → num_of (map to_ascii_lowercase s) ≡ num_of s
 num_lower s =
     let n = prefix_len is_digit s in
-    let d : drop (prefix_len is_digit (map to_ascii_lowercase s)) (map to_ascii_lowercase s) ≡ map to_ascii_lowercase (drop n s) = ap (λ k. drop k (map to_ascii_lowercase s)) (prefix_lower is_digit digit_lower s) ∙ drop_lower n s in
+    let d : drop (prefix_len is_digit (map to_ascii_lowercase s)) (map to_ascii_lowercase s) ≡ map to_ascii_lowercase (drop n s) = ap (λ k. drop k (map to_ascii_lowercase s)) (prefix_lower is_digit digit_lower s) ∙ drop-map to_ascii_lowercase n s in
     let p = ap (λ u. part_of (pointed u) u) d ∙ ap (λ b. part_of b (map to_ascii_lowercase (drop n s))) (pointed_lower (drop n s)) ∙ part_lower (pointed (drop n s)) (drop n s) in
     λ j. record { whole = digits_lower s j; part = p j }
 
@@ -136,16 +117,16 @@ name_lower : (i : ℕ) (s : List ℕ) → name_of i (map to_ascii_lowercase s) �
 name_lower i s =
     let r = prefix_lower in_name name_byte_lower s in
     let n = prefix_len in_name s in
-    let b = ap (map to_ascii_lowercase) (ap (λ k. take k (map to_ascii_lowercase s)) r ∙ take_lower n s) ∙ lower_map (take n s) in
-    let e = ap (λ k. is_blank (get_or (map to_ascii_lowercase s) k 32)) r ∙ ap is_blank (get_d_lower 32 refl s n) ∙ blank_lower (get_or s n 32) in
+    let b = ap (map to_ascii_lowercase) (ap (λ k. take k (map to_ascii_lowercase s)) r ∙ take-map to_ascii_lowercase n s) ∙ map-map to_ascii_lowercase to_ascii_lowercase (take n s) ∙ (λ j. map (λ c. lowercase-lowercase c j) (take n s)) in
+    let e = ap (λ k. is_blank (get_or (map to_ascii_lowercase s) k 32)) r ∙ ap is_blank (get_or-map to_ascii_lowercase s n 32) ∙ blank_lower (get_or s n 32) in
     λ j. name (b j) i (e j)
 
 first_letter : (s : List ℕ) → letter_of (to_ascii_lowercase (get_or (map to_ascii_lowercase s) 0 0)) ≡ letter_of (to_ascii_lowercase (get_or s 0 0))
-first_letter s = ap (λ c. letter_of (to_ascii_lowercase c)) (get_d_lower 0 refl s 0) ∙ ap letter_of (lower_lower (get_or s 0 0))
+first_letter s = ap (λ c. letter_of (to_ascii_lowercase c)) (get_or-map to_ascii_lowercase s 0 0) ∙ ap letter_of (lowercase-lowercase (get_or s 0 0))
 
 opened_lower : (o : Option Opens) (i : ℕ) (s : List ℕ) → opened o i (map to_ascii_lowercase s) ≡ opened o i s
 opened_lower (Some AName) i s = λ j. (name_lower i s j, prefix_lower in_name name_byte_lower s j)
-opened_lower (Some AWord) i s = let q = ap num_of (drop_lower 1 s) ∙ num_lower (drop 1 s) in λ j. (word (first_letter s j) (q j), 1 + num_length (q j))
+opened_lower (Some AWord) i s = let q = ap num_of (drop-map to_ascii_lowercase 1 s) ∙ num_lower (drop 1 s) in λ j. (word (first_letter s j) (q j), 1 + num_length (q j))
 opened_lower (Some ALetter) i s = λ j. (letter (first_letter s j), 1)
 opened_lower (Some ANumber) i s = λ j. (number (num_lower s j), num_length (num_lower s j))
 opened_lower (Some (AMark m)) i s = refl
@@ -153,8 +134,8 @@ opened_lower None i s = refl
 
 token_lower : (i : ℕ) (s : List ℕ) → token_at i (map to_ascii_lowercase s) ≡ token_at i s
 token_lower i s =
-    let a = get_d_lower 0 refl s 0 in
-    let b = get_d_lower 0 refl s 1 in
+    let a = get_or-map to_ascii_lowercase s 0 0 in
+    let b = get_or-map to_ascii_lowercase s 1 0 in
     (λ j. cond (is_blank (a j)) None (Some (opened (opens (a j) (b j)) i (map to_ascii_lowercase s))))
     ∙ (λ j. cond (blank_lower (get_or s 0 0) j) None (Some (opened (opens_lower (get_or s 0 0) (get_or s 1 0) j) i (map to_ascii_lowercase s))))
     ∙ ap (λ o. cond (is_blank (get_or s 0 0)) None (Some o)) (opened_lower (opens (get_or s 0 0) (get_or s 1 0)) i s)
@@ -166,7 +147,7 @@ tokens_lower zero i (c ∷ cs) = λ j. followed (token_lower i (c ∷ cs) j) (λ
 tokens_lower (suc k) i (c ∷ cs) = tokens_lower k (i + 1) cs
 
 code_lower : (s : List ℕ) → code (map to_ascii_lowercase s) ≡ map to_ascii_lowercase (code s)
-code_lower s = ap (λ n. take n (map to_ascii_lowercase s)) (prefix_lower in_code code_byte_lower s) ∙ take_lower (prefix_len in_code s) s
+code_lower s = ap (λ n. take n (map to_ascii_lowercase s)) (prefix_lower in_code code_byte_lower s) ∙ take-map to_ascii_lowercase (prefix_len in_code s) s
 
 pub tokens_alike : (i : ℕ) (s : List ℕ) → tokens_of i (map to_ascii_lowercase s) ≡ tokens_of i s
 tokens_alike i s = ap (tokens_from 0 i) (code_lower s) ∙ tokens_lower 0 i (code s)

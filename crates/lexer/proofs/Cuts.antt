@@ -5,7 +5,7 @@ use Rattle.std.proofs.lemmas.List.{drop_all, drop-drop, get_or-drop, length-drop
 use Rattle.std.proofs.lemmas.List.Sums.{prefix_len_stops}
 use Rattle.lexer.specs.Bytes.{is_blank, opens}
 use Rattle.lexer.specs.Tokens.{Token, opened, followed, tokens_from, first, rest}
-use Rattle.lexer.specs.Model.{tokens, ahead, left, token_is, Moves, Opened, Cut, Further}
+use Rattle.lexer.specs.Model.{tokens, ahead, left, token_is, Moves, Opened, Cut}
 use Rattle.lexer.specs.declared.cursor.Cursor.{Cursor}
 use Rattle.lexer.specs.declared.token.Token as code
 use Rattle.lexer.specs.declared.token.Token.TheVariants.{Name as Named, Word, Letter as Lettered, Number as Numbered, Mark as Marked, Bad, End}
@@ -99,17 +99,3 @@ module _ (c start : Cursor) (skips : start.at ≡ c.at + prefix_len is_blank (dr
         moves = omega (arith, ap length as_here);
         line = same;
       }
-
--- further on in a line
-
-pub further : (c : Cursor) (t : code.Token) (d : Cursor) → Cut c t d → (t ≡ End → ⊥) → Further c d
-further c (Named n) d k h = record { line = k.line; fewer = k.moves }
-further c (Word l n) d k h = record { line = k.line; fewer = k.moves }
-further c (Lettered l) d k h = record { line = k.line; fewer = k.moves }
-further c (Numbered n) d k h = record { line = k.line; fewer = k.moves }
-further c (Marked m) d k h = record { line = k.line; fewer = k.moves }
-further c Bad d k h = record { line = k.line; fewer = k.moves }
-further c End d k h = absurd (h refl)
-
-pub further_on : {c d e : Cursor} → Further c d → Further d e → Further c e
-further_on p q = record { line = q.line ∙ p.line; fewer = omega (arith, p.fewer, q.fewer) }

@@ -1,6 +1,15 @@
 -- Runs of bytes, and the number and the name that bytes begin with. Assumes nothing.
-use Rattle.std.proofs.Common.{◌≡◌, ℕ, ◌+◌, ◌<◌, ◌≤◌, Bool, true, false, cond, List, [], ◌∷◌, length, get_or, take, drop, refl, one-add, arith}
+use Rattle.std.proofs.Common.{◌≡◌, ℕ, ◌+◌, ◌<◌, ◌≤◌, Bool, true, false, cond, List, [], ◌∷◌, length, get_or, take, drop, Option, refl, ◌∙◌, one-add, arith}
 use Rattle.std.specs.List.{prefix_len}
+use denote.Param.Members.{Mut}
+use denote.Ref.{Bor}
+use Rattle.std.specs.Fn.{CalledAt}
+use Rattle.std.specs.Iterator.{Drains}
+use Rattle.std.specs.Iterator.Adapters.{take_while_source, take_while_callee, take_while_done, take_while_steps}
+use Rattle.std.specs.declared.iter.TakeWhile.{TakeWhile}
+use Rattle.std.proofs.lemmas.Iterator.{YieldsList}
+use Rattle.std.proofs.lemmas.Iterator.Consumers.{count_from_yields_List}
+use Rattle.std.proofs.lemmas.Iterator.Search.{YieldsList-from_take_while}
 use Rattle.std.proofs.lemmas.List.{length-drop}
 use Rattle.std.proofs.lemmas.List.Folds.{length-prefix_len}
 use Rattle.std.proofs.lemmas.List.Sums.{prefix_len-le-length}
@@ -10,6 +19,10 @@ use Rattle.lexer.specs.Bytes.{starts_name, in_name}
 use Rattle.lexer.specs.Tokens.{pointed, part_of, part_length, num_of, num_length}
 use Rattle.lexer.specs.Model.{OfDigits}
 use Rattle.lexer.specs.Numbers.{part_digits}
+
+-- how many items of a chain pass a test before the first that doesn't
+pub run_counted : {S A F : Type 0} {steps : S → Option A → S → Type 0} {v : A → ℕ} {s : List ℕ} {f : F} {r : ℕ} (g : Mut F (Bor A × Unit {0}) Bool) (p : ℕ → Bool) (t : TakeWhile S F) → YieldsList steps v (take_while_source t) s → take_while_callee t ≡ f → take_while_done t ≡ false → ((xs : List A) × Drains (take_while_steps steps g) t xs × (r ≡ length xs)) → ((x : A) (b : Bool) (q : F) → CalledAt g f x b q → (q ≡ f) × (b ≡ p (v x))) → r ≡ prefix_len p s
+run_counted {s = s} g p t gives callee done ran k = count_from_yields_List t _ ran (YieldsList-from_take_while g p gives callee done k) ∙ length-prefix_len p s
 
 -- a run of digits holds digits alone
 

@@ -2,7 +2,7 @@
 use Rattle.std.proofs.Common.{◌≡◌, ℕ, zero, suc, ◌+◌, ◌-◌, ◌*◌, ◌^◌, ◌<◌, ◌≤◌, Bool, true, false, cond, ◌&&◌, leb, List, [], ◌∷◌, length, IfSome, Some, None, fold, Option, sym, refl, ap, ◌∙◌, mul-le-mul_right, mul_assoc, mul_comm, pow-suc, arith, lit<}
 use native.Mathlib.Nat.{pow-le-pow_right}
 use Rattle.std.proofs.lemmas.Bool.{and_parts, leb-true}
-use Rattle.lexer.specs.Digits.{all_digits}
+use Rattle.lexer.specs.Digits.{is_digit, all_digits}
 use Rattle.lexer.specs.Tokens.{Num}
 use Rattle.lexer.specs.Numbers.{shifted, value_of, part_digits, decimal_of}
 use Rattle.lexer.specs.Model.{OfDigits}
@@ -12,9 +12,9 @@ use Rattle.lexer.specs.Model.{OfDigits}
 folded_small : (a : ℕ) (ds : List ℕ) → all_digits ds ≡ true → fold shifted a ds + 1 ≤ (a + 1) * 10 ^ length ds
 folded_small a [] h = omega arith
 folded_small a (c ∷ cs) h =
-    let e = and_parts _ _ h in
-    let d = leb-true c 57 (and_parts _ _ e.0).1 in
-    let more = folded_small (shifted a c) cs e.1 in
+    let e = and_parts (is_digit c) (all_digits cs) h in
+    let d : c ≤ 57 = leb-true c 57 (and_parts (leb 48 c) (leb c 57) e.0).1 in
+    let more : fold shifted (shifted a c) cs + 1 ≤ (shifted a c + 1) * 10 ^ length cs = folded_small (shifted a c) cs e.1 in
     let up : (shifted a c + 1) * 10 ^ length cs ≤ (a + 1) * 10 * 10 ^ length cs = mul-le-mul_right (10 ^ length cs) (omega arith) in
     let p : 10 ^ suc (length cs) ≡ 10 * 10 ^ length cs = pow-suc 10 (length cs) ∙ mul_comm (10 ^ length cs) 10 in
     let q : (a + 1) * 10 ^ suc (length cs) ≡ (a + 1) * 10 * 10 ^ length cs = ap (λ k. (a + 1) * k) p ∙ sym (mul_assoc (a + 1) 10 (10 ^ length cs)) in

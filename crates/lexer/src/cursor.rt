@@ -30,7 +30,7 @@ fn name(place: usize, s: &[u8]) -> Name<'_>
     }
 }
 
-/// The token that bytes begin with, no blank among them first, and its length; they stand at a place of their line.
+/// The token that bytes begin with, which is no blank, and its length; they stand at a place of their line.
 fn first(place: usize, s: &[u8]) -> Option<(Token<'_>, usize)>
     ensures begins { Begins place s.entry.now result }
 {

@@ -79,6 +79,7 @@ impl<'t> Number<'t> {
         if self.whole.len() > WHOLE_DIGITS || part.len() > PART_DIGITS {
             return None;
         }
+        // by `as`, which is proved to keep the number: a `TryFrom` would need an answer for what can't come
         let scale = 10u64.pow((PART_DIGITS - part.len()) as u32);
         Some(u64::from(value(self.whole)) * 1000 + u64::from(value(part)) * scale)
     }

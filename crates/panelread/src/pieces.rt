@@ -7,14 +7,14 @@ use sums::value::Value;
 
 /// Something that a line says, and the text up to the end of its code, in which its names and sums stand by their places.
 #[derive(Clone, Copy)]
-pub struct Shown<'a, T> {
-    pub text: &'a [u8],
-    pub said: T,
+pub(crate) struct Shown<'a, T> {
+    pub(crate) text: &'a [u8],
+    pub(crate) said: T,
 }
 
 impl<'a, T> Shown<'a, T> {
     /// A part of what the line says.
-    pub fn part<U>(&self, said: U) -> Shown<'a, U> {
+    pub(crate) fn part<U>(&self, said: U) -> Shown<'a, U> {
         Shown {
             text: self.text,
             said,
@@ -24,7 +24,7 @@ impl<'a, T> Shown<'a, T> {
 
 /// Thousandths, written as a decimal without needless zeros.
 #[derive(Clone, Copy)]
-pub struct Decimal(pub u64);
+pub(crate) struct Decimal(pub(crate) u64);
 
 impl fmt::Display for Decimal {
     fn fmt<W: fmt::Write>(&self, f: &mut fmt::Formatter<W>) -> fmt::Result {

@@ -29,7 +29,7 @@ impl<'t> Iterator for Tokens<'t> {
 
 /// The sum that stands at a cursor.
 #[derive(Clone, Copy)]
-pub struct Sum<'a>(pub Cursor<'a>);
+pub(crate) struct Sum<'a>(pub(crate) Cursor<'a>);
 
 impl fmt::Display for Sum<'_> {
     fn fmt<W: fmt::Write>(&self, f: &mut fmt::Formatter<W>) -> fmt::Result {

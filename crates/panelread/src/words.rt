@@ -7,7 +7,7 @@ use sums::value::Value;
 
 /// A word: a name alone, or a letter and what stands after it.
 #[derive(Clone, Copy)]
-pub enum Word {
+enum Word {
     Name(&'static str),
     Number(char, u32),
     Length(char, u64),
@@ -36,7 +36,7 @@ impl fmt::Display for Shown<'_, Word> {
 }
 
 /// The words of the axes that are named, by their letters.
-pub fn along(letters: [char; 3], axes: Named<Value>) -> [Option<Word>; 3] {
+fn along(letters: [char; 3], axes: Named<Value>) -> [Option<Word>; 3] {
     let [x, y, z] = letters;
     [
         axes.x.map(|value| Word::Value(x, value)),

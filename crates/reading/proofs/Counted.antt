@@ -17,7 +17,7 @@ numbered_is ls zero i h e = absurd (omega arith)
 numbered_is ls (suc n) i h e = let k : n ≡ i = omega arith in ap (slice_get ls) k
 
 nth_one : {A : Type 0} (xs : List A) (i : ℕ) (x : A) → Some x ≡ slice_get xs i → (i < length xs) × (drop i xs ≡ x ∷ drop (suc i) xs)
-nth_one [] i x h = absurd (let z : ◌≡◌ {A = ℕ} 0 1 = cc in omega arith)
+nth_one [] i x h = absurd (cc)
 nth_one (y ∷ ys) zero x h = let e : y ≡ x = cc in (omega arith, ap (λ z. z ∷ ys) e)
 nth_one (y ∷ ys) (suc i) x h = let more = nth_one ys i x h in (omega arith, more.1)
 
@@ -28,7 +28,7 @@ pub record Numbered {A : Type 0} (ls : List A) (n : ℕ) (x : A) : Type 0 where
   pub on : drop (n - 1) ls ≡ x ∷ drop n ls
 
 pub numbered_here : {A : Type 0} (ls : List A) (n : ℕ) (x : A) → Some x ≡ numbered ls n → Numbered ls n x
-numbered_here ls zero x h = absurd (let z : ◌≡◌ {A = ℕ} 0 1 = cc in omega arith)
+numbered_here ls zero x h = absurd (cc)
 numbered_here ls (suc i) x h =
     let one = nth_one ls i x h in
     let k : suc i - 1 ≡ i = omega arith in
@@ -36,7 +36,7 @@ numbered_here ls (suc i) x h =
 
 nth_none : {A : Type 0} (xs : List A) (i : ℕ) → None ≡ slice_get xs i → length xs ≤ i
 nth_none [] i h = omega arith
-nth_none (y ∷ ys) zero h = absurd (let z : ◌≡◌ {A = ℕ} 0 1 = cc in omega arith)
+nth_none (y ∷ ys) zero h = absurd (cc)
 nth_none (y ∷ ys) (suc i) h = omega (arith, nth_none ys i h)
 
 -- no line has a number above 0, so none is left from there on

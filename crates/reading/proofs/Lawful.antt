@@ -1,5 +1,5 @@
 -- The laws of reading. Assumes nothing.
-use Rattle.std.proofs.Common.{◌≡◌, ℕ, ◌+◌, Bool, true, false, ◌&&◌, eqb, leb, List, [], ◌∷◌, map, length, Some, None, Option, sym, refl, ap, ◌∙◌, inl, inr, arith, lit<}
+use Rattle.std.proofs.Common.{◌≡◌, ℕ, ◌+◌, Bool, true, false, ◌&&◌, eqb, leb, List, [], ◌∷◌, map, length, Some, None, Option, sym, refl, ap, ◌∙◌, inl, inr, lit<}
 use lib.ListN.{length-map}
 use Rattle.std.specs.Char.{to_ascii_lowercase}
 use Rattle.lexer.specs.Tokens.{tokens_from}
@@ -56,19 +56,19 @@ either_case_lem s t e = sym (text_lower s) ∙ ap read_text e ∙ text_lower t
 -- Line by line
 
 said_by_lem : (i : ℕ) (l : List ℕ) (ls : List (List ℕ)) (o : Option (Line Sum Named)) (n : ℕ) (t : Text) (ms : List (Line Sum Named)) → line_at i l ≡ o → ((us : List (Line Sum Named)) → t ≡ lines us → EachSays (i + length l + 1) ls us) → or_bad o n (λ u. t) ≡ lines ms → EachSays i (l ∷ ls) ms
-said_by_lem i l ls None n t ms e h f = absurd (let z : ◌≡◌ {A = ℕ} 0 1 = cc in omega arith)
-said_by_lem i l ls (Some m) n (lines us) [] e h f = absurd (let z : ◌≡◌ {A = ℕ} 0 1 = cc in omega arith)
+said_by_lem i l ls None n t ms e h f = absurd (cc)
+said_by_lem i l ls (Some m) n (lines us) [] e h f = absurd (cc)
 said_by_lem i l ls (Some m) n (lines us) (k ∷ ks) e h f =
     let a : m ≡ k = cc in
     let b : us ≡ ks = cc in
     (e ∙ ap (λ x. Some x) a, h ks (ap lines b))
-said_by_lem i l ls (Some m) n too_large ms e h f = absurd (let z : ◌≡◌ {A = ℕ} 0 1 = cc in omega arith)
-said_by_lem i l ls (Some m) n (bad_line k) ms e h f = absurd (let z : ◌≡◌ {A = ℕ} 0 1 = cc in omega arith)
+said_by_lem i l ls (Some m) n too_large ms e h f = absurd (cc)
+said_by_lem i l ls (Some m) n (bad_line k) ms e h f = absurd (cc)
 
 each_says : (n i : ℕ) (ls : List (List ℕ)) (ms : List (Line Sum Named)) → read_lines n i ls ≡ lines ms → EachSays i ls ms
 unfolding read_lines
 each_says n i [] [] e = tt
-each_says n i [] (m ∷ ms) e = absurd (let z : ◌≡◌ {A = ℕ} 0 1 = cc in omega arith)
+each_says n i [] (m ∷ ms) e = absurd (cc)
 each_says n i (l ∷ ls) ms e = said_by_lem i l ls (line_at i l) n (read_lines (n + 1) (i + length l + 1) ls) ms refl (λ us f. each_says (n + 1) (i + length l + 1) ls us f) e
 
 all_read : (n i : ℕ) (ls : List (List ℕ)) (ms : List (Line Sum Named)) → EachSays i ls ms → read_lines n i ls ≡ lines ms
@@ -80,21 +80,21 @@ all_read n i (l ∷ ls) (m ∷ ms) h = λ j. or_bad (h.0 j) n (λ u. all_read (n
 
 bad_by : (n i : ℕ) (l : List ℕ) (ls : List (List ℕ)) (o : Option (Line Sum Named)) (t : Text) (k : ℕ) → line_at i l ≡ o → (t ≡ bad_line k → FirstBad (n + 1) (i + length l + 1) ls k) → or_bad o n (λ u. t) ≡ bad_line k → FirstBad n i (l ∷ ls) k
 bad_by n i l ls None t k e h f = let a : k ≡ n = cc in inl (e, a)
-bad_by n i l ls (Some m) (lines us) k e h f = absurd (let z : ◌≡◌ {A = ℕ} 0 1 = cc in omega arith)
-bad_by n i l ls (Some m) too_large k e h f = absurd (let z : ◌≡◌ {A = ℕ} 0 1 = cc in omega arith)
+bad_by n i l ls (Some m) (lines us) k e h f = absurd (cc)
+bad_by n i l ls (Some m) too_large k e h f = absurd (cc)
 bad_by n i l ls (Some m) (bad_line q) k e h f = inr (m, (e, h f))
 
 first_bad_lem : (n i : ℕ) (ls : List (List ℕ)) (k : ℕ) → read_lines n i ls ≡ bad_line k → FirstBad n i ls k
 unfolding read_lines
-first_bad_lem n i [] k e = absurd (let z : ◌≡◌ {A = ℕ} 0 1 = cc in omega arith)
+first_bad_lem n i [] k e = absurd (cc)
 first_bad_lem n i (l ∷ ls) k e = bad_by n i l ls (line_at i l) (read_lines (n + 1) (i + length l + 1) ls) k refl (first_bad_lem (n + 1) (i + length l + 1) ls k) e
 
 says_by : (b : Bool) (s : List ℕ) (ms : List (Line Sum Named)) → by_limits b s ≡ lines ms → EachSays 0 (lines_of s) ms
-says_by false s ms e = absurd (let z : ◌≡◌ {A = ℕ} 0 1 = cc in omega arith)
+says_by false s ms e = absurd (cc)
 says_by true s ms e = each_says 1 0 (lines_of s) ms e
 
 refused_by : (b : Bool) (s : List ℕ) (k : ℕ) → by_limits b s ≡ bad_line k → FirstBad 1 0 (lines_of s) k
-refused_by false s k e = absurd (let z : ◌≡◌ {A = ℕ} 0 1 = cc in omega arith)
+refused_by false s k e = absurd (cc)
 refused_by true s k e = first_bad_lem 1 0 (lines_of s) k e
 
 pub line_by_line_lem : LineByLine

@@ -1,10 +1,10 @@
 -- The lines of a text, one after the other. Assumes nothing.
-use Rattle.std.proofs.Common.{◌≡◌, ℕ, suc, ◌+◌, ◌-◌, ◌<◌, ◌≤◌, Bool, true, false, ◌&&◌, eqb, leb, List, [], ◌∷◌, length, take, drop, sym, refl, ap, ◌∙◌, arith}
+use Rattle.std.proofs.Common.{◌≡◌, ℕ, suc, ◌+◌, ◌-◌, ◌<◌, ◌≤◌, Bool, true, false, ◌&&◌, eqb, leb, List, [], ◌∷◌, length, take, drop, refl, ap, ◌∙◌, arith}
 use Rattle.std.proofs.lemmas.List.{drop_all, drop-drop, length-drop, length-take-le}
 use Rattle.std.proofs.lemmas.List.Sums.{prefix_len-le-length}
-use Rattle.std.proofs.lemmas.Bool.{and_left, and_right, and_parts, lt-leb, le-leb, leb-true}
+use Rattle.std.proofs.lemmas.Bool.{and_parts, leb-true}
 use Rattle.std.specs.List.{prefix_len, list_all}
-use Rattle.reading.specs.Lines.{in_line, lines_of, onto, all_short, limits, Placed, placed_from, placed}
+use Rattle.reading.specs.Lines.{in_line, lines_of, onto, all_short, limits, Placed, placed_from}
 
 by_first : (c : ℕ) (cs : List ℕ) (b : Bool) → eqb c 10 ≡ b → ((0 < length cs) → lines_of cs ≡ take (prefix_len in_line cs) cs ∷ lines_of (drop (suc (prefix_len in_line cs)) cs)) → lines_of (c ∷ cs) ≡ take (prefix_len in_line (c ∷ cs)) (c ∷ cs) ∷ lines_of (drop (suc (prefix_len in_line (c ∷ cs))) (c ∷ cs))
 unfolding lines_of
@@ -23,31 +23,19 @@ unfolding lines_of placed_from
 no_lines s t i h = ap (λ d. placed_from t i (lines_of d)) (drop_all i s h)
 
 -- the line that begins at i and ends at e, and the lines after it
-pub record OneLine (s : List ℕ) (i e : ℕ) : Type 0 where
-  pub low : i ≤ e
-  pub high : e ≤ length s
-  pub long : length (take (e - i) (drop i s)) ≡ e - i
-  pub is : placed_from s i (lines_of (drop i s)) ≡ record { text = s; from = i; bytes = take (e - i) (drop i s) } ∷ placed_from s (e + 1) (lines_of (drop (e + 1) s))
-
-pub one_line : (s : List ℕ) (i e : ℕ) → i < length s → e ≡ i + prefix_len in_line (drop i s) → OneLine s i e
+pub one_line : (s : List ℕ) (i e : ℕ) → i < length s → e ≡ i + prefix_len in_line (drop i s) → placed_from s i (lines_of (drop i s)) ≡ record { text = s; from = i; bytes = take (e - i) (drop i s) } ∷ placed_from s (e + 1) (lines_of (drop (e + 1) s))
 unfolding placed_from
 one_line s i e h is =
     let len = length-drop i s in
     let le = prefix_len-le-length in_line (drop i s) in
     let n : prefix_len in_line (drop i s) ≡ e - i = omega arith in
     let same : i + suc (e - i) ≡ e + 1 = omega arith in
-    let long : length (take (e - i) (drop i s)) ≡ e - i = length-take-le (e - i) (drop i s) (omega arith) in
-    let after : i + length (take (e - i) (drop i s)) + 1 ≡ e + 1 = omega arith in
+    let after : i + length (take (e - i) (drop i s)) + 1 ≡ e + 1 = omega (arith, length-take-le (e - i) (drop i s) (omega arith)) in
     let first : lines_of (drop i s) ≡ take (e - i) (drop i s) ∷ lines_of (drop (e + 1) s) =
     lines_step (drop i s) (omega arith)
     ∙ ap (λ k. take k (drop i s) ∷ lines_of (drop (suc k) (drop i s))) n
     ∙ ap (λ l. take (e - i) (drop i s) ∷ lines_of l) (drop-drop (suc (e - i)) i s ∙ ap (λ k. drop k s) same) in
-    record {
-      low = omega arith;
-      high = omega arith;
-      long = long;
-      is = ap (placed_from s i) first ∙ ap (λ k. record { text = s; from = i; bytes = take (e - i) (drop i s) } ∷ placed_from s k (lines_of (drop (e + 1) s))) after;
-    }
+    ap (placed_from s i) first ∙ ap (λ k. record { text = s; from = i; bytes = take (e - i) (drop i s) } ∷ placed_from s k (lines_of (drop (e + 1) s))) after
 
 -- as many lines as there are, each as short as it is
 pub all_placed : (s : List ℕ) (i : ℕ) (ls : List (List ℕ)) → length (placed_from s i ls) ≡ length ls
@@ -60,32 +48,5 @@ unfolding placed_from
 short_placed s i [] = refl
 short_placed s i (l ∷ ls) = ap (λ b. leb (length l) 512 && b) (short_placed s (i + length l + 1) ls)
 
-by_first_length : (c : ℕ) (cs : List ℕ) (b : Bool) → eqb c 10 ≡ b → length (lines_of cs) ≤ length cs → length (lines_of (c ∷ cs)) ≤ suc (length cs)
-unfolding lines_of
-by_first_length c cs true e h = simp e (omega arith)
-by_first_length c cs false e h = simp e (onto_length c (lines_of cs) (length cs) h)
-  where
-    onto_length : (c : ℕ) (ls : List (List ℕ)) (n : ℕ) → length ls ≤ n → length (onto c ls) ≤ suc n
-    onto_length c [] n h = omega arith
-    onto_length c (l ∷ ls) n h = omega arith
-
-pub fewer_lines : (s : List ℕ) → length (lines_of s) ≤ length s
-unfolding lines_of
-fewer_lines [] = omega arith
-fewer_lines (c ∷ cs) = by_first_length c cs (eqb c 10) refl (fewer_lines cs)
-
 pub few_lines : (s : List ℕ) → limits s ≡ true → length (lines_of s) ≤ 2000
 few_lines s h = leb-true (length (lines_of s)) 2000 (and_parts _ _ (and_parts _ _ h).1).0
-
--- the three limits, of which the first that is broken decides
-pub over_bytes : (s : List ℕ) → 65536 < length s → false ≡ limits s
-over_bytes s h = sym (and_left _ _ (lt-leb (length s) 65536 h))
-
-pub over_lines : (s : List ℕ) (n : ℕ) → n ≡ length (placed s) → leb n 2000 ≡ false → false ≡ limits s
-over_lines s n is h = sym (and_right (leb (length s) 65536) _ (and_left _ _ (ap (λ k. leb k 2000) (sym (is ∙ all_placed s 0 (lines_of s))) ∙ h)))
-
-pub by_lengths : (s : List ℕ) (n : ℕ) (short : Bool) → length s ≤ 65536 → n ≡ length (placed s) → leb n 2000 ≡ true → short ≡ list_all (λ (p : Placed). leb (length p.bytes) 512) (placed s) → short ≡ limits s
-by_lengths s n short low is few all =
-    let bytes = le-leb (length s) 65536 low in
-    let lines : leb (length (lines_of s)) 2000 ≡ true = ap (λ k. leb k 2000) (sym (is ∙ all_placed s 0 (lines_of s))) ∙ few in
-    all ∙ short_placed s 0 (lines_of s) ∙ (λ j. sym bytes j && (sym lines j && all_short (lines_of s)))

@@ -1,15 +1,16 @@
 //! The lines of a text, and the limits of a text.
-ghost use Rattle.std.specs.Prelude.{◌≡◌, ◌+◌, length, drop};
-ghost use Rattle.std.specs.Iterator.{YieldsFirstBy, item_count};
+ghost use Rattle.std.specs.Prelude.{◌≡◌, ◌+◌, ◌-◌, ◌≤◌, length, drop};
+ghost use Rattle.std.specs.Iterator.{YieldsFirstBy, at_most};
 ghost use Rattle.std.specs.List.{prefix_len};
-ghost use Rattle.reading.specs.Lines.{in_line, limits, bytes_of, placed, placed_line, lines_left};
+ghost use Rattle.reading.specs.Lines.{in_line, lines_of, all_short, limits, bytes_of, placed, placed_line, lines_left};
 
 use crate::line::TextLine;
 use crate::program::MOST_LINES;
 
-/// How many bytes a text has at most, and how many a line has.
+/// How many bytes a text has at most.
 const MOST_BYTES: usize = 65_536;
 
+/// How many bytes a line has at most.
 const LINE_BYTES: usize = 512;
 
 /// What ends a line.
@@ -18,6 +19,8 @@ const LINE_END: u8 = b'\n';
 /// Where the line that begins at a place ends.
 fn line_end(text: &[u8], from: usize) -> usize
     ensures value { result ≡ from + prefix_len in_line (drop from text.now) }
+    ensures low { from ≤ result }
+    ensures inside { from ≤ length text.now → result ≤ length text.now }
 {
     from + text
         .iter()
@@ -47,7 +50,7 @@ impl<'t> Iterator for Lines<'t> {
 
     ghost next_gives = { YieldsFirstBy placed_line lines_left };
 
-    ghost remaining = { item_count lines_left };
+    ghost remaining = { λ it. at_most (length it.text.now - it.from) };
 
     /// A line end after the last byte opens no line.
     fn next(&mut self) -> Option<TextLine<'t>> {
@@ -71,11 +74,23 @@ impl TextLine<'_> {
     }
 }
 
+/// How many lines a text has.
+fn count(text: &[u8]) -> usize
+    ensures value { result ≡ length (lines_of text.now) }
+{
+    Lines::of(text).count()
+}
+
+/// Whether no line of a text has too many bytes.
+fn each_short(text: &[u8]) -> bool
+    ensures value { result ≡ all_short (lines_of text.now) }
+{
+    Lines::of(text).all(|line| line.len() <= LINE_BYTES)
+}
+
 /// Whether a text is within its three limits.
 pub fn within_limits(text: &[u8]) -> bool
     ensures value { result ≡ limits text.now }
 {
-    text.len() <= MOST_BYTES
-        && Lines::of(text).count() <= MOST_LINES
-        && Lines::of(text).all(|line| line.len() <= LINE_BYTES)
+    text.len() <= MOST_BYTES && count(text) <= MOST_LINES && each_short(text)
 }

@@ -43,21 +43,19 @@ fn first_bad(text: &[u8]) -> Option<usize>
     Some(before + 1)
 }
 
-/// Puts the lines of a text that can be read in the place of those that were there.
+/// Puts the lines of a text, each of which has a form, in the place of those that were there.
 fn fill(lines: &mut Vec<Held>, text: &[u8])
     requires room { 2000 ≤ vec_capacity lines.old }
     requires fits { limits text.now ≡ true }
-    requires good { bad (read_lines 1 0 (lines_of text.now)) ≡ None }
-    ensures value { read_lines 1 0 (lines_of text.now) ≡ whole (map (said text.now) lines.new.items) }
+    ensures value { bad (read_lines 1 0 (lines_of text.now)) ≡ None → read_lines 1 0 (lines_of text.now) ≡ whole (map (said text.now) lines.new.items) }
     ensures room { 2000 ≤ vec_capacity lines.new }
     ensures few { vec_len lines.new ≤ 2000 }
 {
     lines.clear();
     for line in Lines::of(text) {
-        let Some(held) = line.held() else {
-            unreachable()
-        };
-        lines.push_reserved(held);
+        if let Some(held) = line.held() {
+            lines.push_reserved(held);
+        }
     }
 }
 

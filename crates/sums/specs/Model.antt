@@ -1,10 +1,11 @@
 -- What the readers of sums answer over the bytes of a line. Assumes nothing.
---     Walked W o r           r is what a walk from cursor to cursor makes of what the tokens say, o:
---                            nothing for nothing, else what W makes of it and the cursor after it
+--     weighed W o            what W makes of what the tokens say, o, and the tokens after it
+--     Walked W o r           the code reads it as r: nothing for nothing, else what W makes of it and the cursor after it
 --     Signed c r             r is the sign at the cursor c, true for minus, and the cursor after it
 --     sum_at line at         the sum that stands at a place
 --     value_is line v        the sum that a value which a line holds stands for
 use Rattle.std.specs.Prelude.{◌≡◌, ℕ, Bool, List, Some, None, Option}
+use Rattle.std.specs.Option.{option_map}
 use Rattle.lexer.specs.Tokens.{Token, first, rest}
 use Rattle.lexer.specs.Model.{tokens, ahead, Further}
 use Rattle.lexer.specs.declared.cursor.Cursor.{Cursor}
@@ -12,10 +13,11 @@ use Rattle.sums.specs.Sums.{Sum, done, single, sign_of, sum_of}
 use Rattle.sums.specs.declared.value.Value.{Value}
 use Rattle.sums.specs.declared.value.Value.TheVariants as held
 
+abbrev pub weighed : {A B : Type 0} → (A → B) → Option (A × List Token) → Option (B × List Token)
+weighed W o = option_map (λ x. (W x.0, x.1)) o
+
 abbrev pub Walked : {A B : Type 0} → (A → B) → Option (A × List Token) → Option (B × Cursor) → Type 0
-Walked W None r = r ≡ None
-Walked W (Some x) None = ⊥
-Walked W (Some x) (Some y) = (y.0 ≡ W x.0) × (ahead y.1 ≡ x.1)
+Walked W o r = weighed W o ≡ option_map (λ y. (y.0, ahead y.1)) r
 
 abbrev pub Signed : Cursor → Option (Bool × Cursor) → Type 0
 Signed c None = sign_of (first (ahead c)) ≡ None

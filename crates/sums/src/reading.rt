@@ -17,8 +17,8 @@ use lexer::token::Token;
 /// How many brackets may be open at once.
 const BRACKETS: usize = 8;
 
-/// What was read is worth, if it is in range, and the cursor after it. It is taken apart by `let .. else` and `match`: today's
-/// Rattle writes no proof of a `?` or a `map` over an amount beside a reference.
+/// What a part of a sum is worth, if it is in range, and the cursor after it. Tried by `?` and `map`, of which today's Rattle
+/// writes no proof where an amount stands beside a reference: so a `let .. else` or a `match` takes it apart.
 type Read<'t> = (Option<Amount>, Cursor<'t>);
 
 /// A value added to what was added so far, or taken from it; nothing where either is beyond the range.
@@ -82,6 +82,7 @@ fn term<'t>(c: Cursor<'t>, depth: usize, params: &Parameters) -> Option<Read<'t>
                 return None;
             }
             let k = n.digits(2)?;
+            // by `as`, since Rust has no `From<u32>` for `usize`
             Some((Some(params.get(k as usize)), next))
         }
         Token::Mark(_) => {

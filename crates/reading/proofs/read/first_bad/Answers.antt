@@ -1,28 +1,17 @@
-use Rattle.std.proofs.Common.{◌+◌, length, sym, ap, ◌∙◌, inl, arith, rules, tests}
+use Rattle.std.proofs.Common.{◌+◌, sym, ap, ◌∙◌, rules, tests}
 use Rattle.std.proofs.lemmas.Iterator.Consumers.{YieldsList-from_first}
 use Rattle.std.proofs.lemmas.Iterator.Search.{position_from_yields_List}
 use Rattle.std.specs.Option.{option_map}
-use Rattle.reading.specs.Lines.{lines_of, placed, placed_line, lines_left}
+use Rattle.reading.specs.Lines.{placed, placed_line, lines_left}
 use Rattle.reading.specs.Reading.{formless}
-use Rattle.reading.proofs.Lined.{all_placed, fewer_lines}
 use Rattle.reading.proofs.Telling.{first_is}
 use Rattle.reading.proofs.read.first_bad.Goals as goal
-
-pub position-requires-clause-fits : goal.position-requires-clause-fits
-position-requires-clause-fits c =
-    let s = c.args.text.now in
-    inl (omega (arith, ap length c.of.ensures.value, all_placed s 0 (lines_of s), fewer_lines s))
 
 pub returns-in_err-before : goal.returns-in_err-before
 returns-in_err-before c =
     let s = c.args.text.now in
     let found = position_from_yields_List formless c.position.new.self _ c.position.result c.position.ensures.ran (YieldsList-from_first placed_line lines_left (placed s) c.of.ensures.value) (λ x b q k. search (rules, tests)) in
     record { value = c.from_residual.ensures ∙ ap (option_map (λ b. b + 1)) (sym c.in_err-before.was) ∙ first_is s c.position.result found }
-
-pub overflow_add-result : goal.overflow_add-result
-overflow_add-result c =
-    let s = c.args.text.now in
-    record { fits = omega (arith, c.in_ok-before.ensures.bound, ap length c.of.ensures.value, all_placed s 0 (lines_of s), fewer_lines s) }
 
 pub returns : goal.returns
 returns c =
