@@ -40,7 +40,7 @@ module _ {K : Type 0} (i : Index K) (o : Option K) (key : K) (line : ℕ) (is : 
       by_rest [] none ∙ (λ j. record { room = record { entered = front j; rest = rest j }; full = Some line })
 
   -- the same of a call of `enter` whose refusal, told by P, is that of the line
-  pub put_is : (P : Full → Refusal → Type 0) → ((f : Full) (e : Refusal) → P f e → e ≡ no_place line) → (r : Result (Unit {0}) Full) (q : Result (Unit {0}) Refusal) → Entered i entry k r → MatchResult r (λ u. q ≡ Ok u) (λ f. IsErrAnd q (P f)) → record {room : room_of k ≡ (put o line (room_of i)).room; answer : q ≡ answer (put o line (room_of i)).full}
+  pub put_is : (P : Full → Refusal → Type 0) → ((f : Full) (e : Refusal) → P f e → e ≡ no_place line) → (r : Result (Unit {0}) Full) (q : Result (Unit {0}) Refusal) → Entered i entry k r → MatchResult r (λ u. q ≡ Ok u) (λ f. IsErrAnd q (P f)) → record { room : room_of k ≡ (put o line (room_of i)).room; answer : q ≡ answer (put o line (room_of i)).full }
   put_is P why (Ok u) q a h = let e = put_added a in record { room = sym (ap (λ p. p.room) e); answer = h ∙ sym (ap (λ p. answer p.full) e) }
   put_is P why (Err f) (Ok u) a h = absurd h
   put_is P why (Err f) (Err d) a h = let e = put_kept a in record { room = sym (ap (λ p. p.room) e); answer = ap (λ x. Err x) (why f d h) ∙ sym (ap (λ p. answer p.full) e) }

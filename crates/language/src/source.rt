@@ -3,9 +3,10 @@ ghost use Rattle.forms.specs.Model.{name_at};
 ghost use Rattle.reading.specs.Reading.{held_text, held_lines};
 
 use crate::indexed::Indexed;
-use crate::valuing::says;
+use crate::valuing::Valuing;
 use forms::said::{Place, Statement, Target};
 use rules::source::Source;
+use sums::amount::Amount;
 use sums::parameters::Parameters;
 
 impl Source for Indexed<'_, '_, '_> {
@@ -17,8 +18,17 @@ impl Source for Indexed<'_, '_, '_> {
         self.program.count()
     }
 
-    fn says(&self, number: usize, params: &Parameters) -> Option<Statement<i64, Place>> {
-        says(self.program, number, params)
+    fn says(&self, number: usize, params: &Parameters) -> Option<Statement<Amount, Place>> {
+        let program = self.program;
+        match program.line(number) {
+            Some(held) => Valuing {
+                program,
+                held,
+                params,
+            }
+            .says(),
+            None => Some(Statement::Nothing),
+        }
     }
 
     fn find(&self, forward: bool, target: Target<Place>, from: usize) -> Option<usize> {
