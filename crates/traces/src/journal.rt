@@ -5,7 +5,6 @@ use rules::run::Made;
 
 mod recording;
 
-
 /// The motions that a run made, in order. There is room for those of any run.
 #[derive(Drop)]
 pub struct Journal {
