@@ -1,10 +1,11 @@
 -- Entering targets into rooms: one target, one line, and one line after the other. Assumes nothing.
 --     put_is                 what `Index::enter` says, as a target that enters a room or finds no place
---     lines_on, lines_stop, lines_end    a turn of entering line by line, the turn that is refused, and the end
+--     enter_none             the end of entering line by line
+--     lines_on, lines_stop   a turn before it, and the turn that is refused
 --     same_on                the rooms stay the same, from turn to turn
 --     all_numbers, all_labels    where every target found a place, each of them was entered
 --     whole              the same where nothing was entered before
-use Rattle.std.proofs.Common.{◌≡◌, ℕ, ◌+◌, ◌-◌, ◌<◌, List, [], ◌∷◌, ◌++◌, length, take, drop, Some, None, Ok, Err, Option, Result, MatchResult, IsErrAnd, sym, refl, ap, ◌∙◌, arith}
+use Rattle.std.proofs.Common.{◌≡◌, ℕ, ◌+◌, List, [], ◌∷◌, ◌++◌, take, drop, Some, None, Ok, Err, Option, Result, MatchResult, IsErrAnd, sym, refl, ap, ◌∙◌, arith}
 use Rattle.std.proofs.lemmas.List.{append_assoc, append-nil, take_more_set, drop_more, drop-set-lt, drop_all}
 use Rattle.std.specs.Option.{option_map}
 use Rattle.motions.specs.declared.refusal.Refusal.{Refusal}
@@ -100,7 +101,7 @@ enter_one : (k : ℕ) (l : Said) (ls : List Said) (r : Rooms) → enter_lines k 
 unfolding enter_lines
 enter_one k l ls r = refl
 
-enter_none : (k : ℕ) (r : Rooms) → enter_lines k [] r ≡ r
+pub enter_none : (k : ℕ) (r : Rooms) → enter_lines k [] r ≡ r
 unfolding enter_lines
 enter_none k r = refl
 
@@ -120,20 +121,15 @@ module _ (k : ℕ) (l : Said) (ls : List Said) (r : Rooms) where
   stops : (n : ℕ) → (enter_line k l r).full ≡ Some n → enter_lines k (l ∷ ls) r ≡ enter_line k l r
   stops n h = enter_one k l ls r ∙ ap (λ o. unless_in o (enter_lines (k + 1) ls) (enter_line k l r)) h
 
--- a turn at the line n of the lines ls
-module _ (ls : List Said) (n : ℕ) (l : Said) (r : Rooms) (here : drop (n - 1) ls ≡ l ∷ drop n ls) (t : Targets) where
-  pub lines_on : Left t (Ok tt) (enter_line n l r) → enter_lines (n + 1) (drop (n + 1 - 1) ls) (rooms_of t) ≡ enter_lines n (drop (n - 1) ls) r
+-- a turn at the line l, which has the number n and is followed by the lines ls
+module _ (n : ℕ) (l : Said) (ls : List Said) (r : Rooms) (t : Targets) where
+  pub lines_on : Left t (Ok tt) (enter_line n l r) → enter_lines (n + 1) ls (rooms_of t) ≡ enter_lines n (l ∷ ls) r
   lines_on w =
       let none = answer_ok (enter_line n l r).full w.answer in
-      let k : n + 1 - 1 ≡ n = omega arith in
-      let after : rooms_of t ≡ enter_line n l r = λ j. record { numbers = w.numbers j; labels = w.labels j; full = sym none j } in
-      (λ j. enter_lines (n + 1) (drop (k j) ls) (after j)) ∙ sym (goes_on n l (drop n ls) r none) ∙ sym (ap (λ xs. enter_lines n xs r) here)
+      (λ j. enter_lines (n + 1) ls (record { numbers = w.numbers j; labels = w.labels j; full = sym none j })) ∙ sym (goes_on n l ls r none)
 
-  pub lines_stop : (e : Refusal) → Left t (Err e) (enter_line n l r) → enter_line n l r ≡ enter_lines n (drop (n - 1) ls) r
-  lines_stop e w = let s = answer_err (enter_line n l r).full e w.answer in sym (ap (λ xs. enter_lines n xs r) here ∙ stops n l (drop n ls) r s.0 s.1)
-
-pub lines_end : (ls : List Said) (n : ℕ) (r : Rooms) → drop (n - 1) ls ≡ [] → r ≡ enter_lines n (drop (n - 1) ls) r
-lines_end ls n r h = sym (ap (λ xs. enter_lines n xs r) h ∙ enter_none n r)
+  pub lines_stop : (e : Refusal) → Left t (Err e) (enter_line n l r) → enter_line n l r ≡ enter_lines n (l ∷ ls) r
+  lines_stop e w = let s = answer_err (enter_line n l r).full e w.answer in sym (stops n l ls r s.0 s.1)
 
 pub same_on : (t u v : Targets) → SameRooms t u → SameRooms u v → SameRooms t v
 same_on t u v p q = ((q.0.0 ∙ p.0.0, q.0.1 ∙ p.0.1), (q.1.0 ∙ p.1.0, q.1.1 ∙ p.1.1))

@@ -26,10 +26,8 @@ impl Targets<'_> {
         ensures whole { OnOk result (self.old.numbers.used ≡ 0 → self.old.labels.used ≡ 0 → Whole (held_lines program.now) self.new) }
         ensures same { SameRooms self.old self.new }
     {
-        let mut number: usize = 1;
-        while let Some(held) = program.line(number) {
-            self.enter_line(program.text(), held, number)?;
-            number += 1;
+        for (held, number) in program.lines().iter().zip(1..) {
+            self.enter_line(program.text(), *held, number)?;
         }
         Ok(())
     }

@@ -35,7 +35,10 @@ impl Valuing<'_, '_> {
     fn axis(&self, v: Option<Value>) -> Option<Option<Amount>>
         ensures value { result ≡ optional (worth_of self.now) (option_map (value_is (code_of self.now)) v) }
     {
-        v.map_or(Some(None), |v| self.worth(v).map(Some))
+        let Some(v) = v else {
+            return Some(None);
+        };
+        Some(Some(self.worth(v)?))
     }
 
     /// The value of each axis that the line names.
@@ -80,7 +83,10 @@ impl Valuing<'_, '_> {
     fn tests(&self, t: Option<Test<Value>>) -> Option<Option<Test<Amount>>>
         ensures value { result ≡ optional (valued_test (worth_of self.now)) (option_map (test_is (code_of self.now)) t) }
     {
-        t.map_or(Some(None), |t| self.test(t).map(Some))
+        let Some(t) = t else {
+            return Some(None);
+        };
+        Some(Some(self.test(t)?))
     }
 
     /// The place of a name, cut at the end of the line's code.
