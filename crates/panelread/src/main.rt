@@ -7,11 +7,29 @@ mod sum;
 mod words;
 
 use pieces::Shown;
-use reading::program::Program;
+use reading::program::{Held, Program};
 use std::io::Read;
 
 /// One byte more than a text may have: enough to see that it has too many.
 const ENOUGH: u64 = 65_537;
+
+/// Writes the canonical form of a line.
+fn show(rt: &HostRuntime, program: &Program<'_>, held: Held) -> anyhow::Result<()> {
+    let line = Shown {
+        text: program.up_to(held),
+        said: held.line,
+    };
+    println!(rt; "{line}")?;
+    Ok(())
+}
+
+/// Writes the canonical form of every line of a read program.
+fn list(rt: &HostRuntime, program: &Program<'_>) -> anyhow::Result<()> {
+    for held in program.lines() {
+        show(rt, program, *held)?;
+    }
+    Ok(())
+}
 
 fn run(rt: &HostRuntime) -> anyhow::Result<()> {
     let heap = rt.alloc();
@@ -22,14 +40,7 @@ fn run(rt: &HostRuntime) -> anyhow::Result<()> {
         println!(rt; "{refusal}")?;
         return Ok(());
     }
-    for held in program.lines() {
-        let line = Shown {
-            text: program.up_to(*held),
-            said: held.line,
-        };
-        println!(rt; "{line}")?;
-    }
-    Ok(())
+    list(rt, &program)
 }
 
 fn main(rt: HostRuntime) -> anyhow::Result<()> {
