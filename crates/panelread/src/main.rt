@@ -8,17 +8,23 @@ mod words;
 
 use pieces::Shown;
 use reading::lines::ENOUGH;
-use reading::program::Program;
+use reading::program::{Held, Program};
 use std::io::Read;
+
+/// Writes the canonical form of a line.
+fn show(rt: &HostRuntime, program: &Program<'_>, held: Held) -> anyhow::Result<()> {
+    let line = Shown {
+        text: program.up_to(held),
+        said: held.line,
+    };
+    println!(rt; "{line}")?;
+    Ok(())
+}
 
 /// Writes the canonical form of every line of a read program.
 fn list(rt: &HostRuntime, program: &Program<'_>) -> anyhow::Result<()> {
     for held in program.lines() {
-        let line = Shown {
-            text: program.up_to(*held),
-            said: held.line,
-        };
-        println!(rt; "{line}")?;
+        show(rt, program, *held)?;
     }
     Ok(())
 }
