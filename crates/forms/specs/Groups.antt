@@ -2,7 +2,7 @@
 --     Group                  the groups; `none` is that of the functions that may not stand among words
 --     group_of g             the group of the function g
 --     interpolation_of g, plane_of g, measure_of g, slot_of g   what a G function of its group stands for
---     interpolation_number i, plane_number p, measure_number m, slot_number s   the function that stands for it
+--     interpolation_number i, plane_number p, measure_number m, slot_number s   the function that stands for i, p, m or s
 --     once o b               b where o holds nothing yet, and None where it does; `once_set` is the same of a mark that is set
 --     with_g g s             s with g as well, or None where its group has one already, or there is no group
 --     no_modal s, no_flag s  no function that holds on for the next lines, or none of the others, stands in s

@@ -11,19 +11,19 @@ use crate::said::{Interpolation, Measure, Slot};
 use motions::axes::Plane;
 use motions::row::Turn;
 
-/// What the G functions of one group stand for.
+/// What the G functions of one group stand for. The numbers are those that a line writes.
 pub trait Modal: Copy {
-    /// What a function of the group stands for.
+    /// What the function with a number stands for.
     ghost stands_for: { ℕ → Self };
 
-    /// The number of the function that stands for it.
+    /// The number of the function that stands for a value.
     ghost number: { Self → ℕ };
 
-    /// What a function of the group stands for.
+    /// What the function with a number stands for, where the number is one of the group.
     fn of(g: u32) -> Self
         ensures value { result ≡ stands_for g };
 
-    /// The number of the function that stands for it.
+    /// The number of the function that stands for this.
     fn number(self) -> u32
         ensures value { result ≡ number self };
 
