@@ -35,6 +35,8 @@ pub(crate) enum Command {
     Repeat,
 }
 
+// `of` and no `TryFrom`: a letter or a name that is none of these is no error, but another form.
+
 impl Kind {
     /// The kind of word that a letter opens, if it opens one.
     pub(crate) fn of(l: Letter) -> Option<Kind>

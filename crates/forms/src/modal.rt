@@ -12,6 +12,7 @@ use motions::axes::Plane;
 use motions::row::Turn;
 
 /// What the G functions of one group stand for. The numbers are those that a line writes.
+// No pair of `TryFrom` and `From`: no law joins those, and `Groups::with` has found the group before, so no error could come.
 pub trait Modal: Copy {
     /// What the function with a number stands for.
     ghost stands_for: { ℕ → Self };

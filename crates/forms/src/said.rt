@@ -18,7 +18,7 @@ pub struct Place {
 /// One word of a line.
 #[derive(Clone, Copy, Drop, PartialEq, Eq)]
 pub enum Word<V> {
-    /// A G function by its number: `Groups::with` chooses its group, by ranges and guards.
+    /// A G function by its number: `Groups::with` chooses its group, by ranges and guards, which is a rule of the project.
     Function(u32),
     Axis(Axis, V),
     Centre(Axis, V),
@@ -117,6 +117,7 @@ pub enum Pause {
 }
 
 /// What a line says after its number and its label.
+// `upper`, `adds` and `forward` are flags: each has two values, and its name says both.
 #[derive(Clone, Copy, Drop, PartialEq, Eq)]
 pub enum Statement<V, N> {
     /// An empty statement: nothing stands there.

@@ -37,6 +37,8 @@ impl<'a, K: Key> Index<'a, K> {
         Ok(())
     }
 
+    // These two share a chain but for its test and its end, and no function could hand that chain out: there is no `impl Iterator` as a result.
+
     /// The nearest line above `line` that was entered under the key.
     pub fn after(&self, text: &[u8], key: &K, line: usize) -> Option<usize>
         ensures value { result ≡ nearest_after line (lines_with (K.same text.now) key.now (entries self.now)) }

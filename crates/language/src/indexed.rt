@@ -22,6 +22,7 @@ pub struct Indexed<'a, 't, 'r> {
 }
 
 /// The nearest line under a key: above a line, or else up to it.
+// The flag is the jump's own; a closure in its place would be chosen by the same test.
 fn nearest<K: Key>(
     index: &Index<'_, K>,
     text: &[u8],

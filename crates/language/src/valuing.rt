@@ -35,6 +35,7 @@ impl Valuing<'_, '_> {
     fn axis(&self, v: Option<Value>) -> Option<Option<Amount>>
         ensures value { result ≡ optional (worth_of self.now) (option_map (value_is (code_of self.now)) v) }
     {
+        // `map_or` was tried, and its proof did not close
         let Some(v) = v else {
             return Some(None);
         };

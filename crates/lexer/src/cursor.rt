@@ -11,6 +11,8 @@ use crate::symbols::{Letter, Opens};
 use crate::token::{Name, Token};
 
 /// A place in a line, from which its tokens are read.
+// That a reader comes further stands in the contract of each: it joins what was handed in with what comes back, and no type of one
+// value can say that.
 #[derive(Clone, Copy)]
 pub struct Cursor<'t> {
     pub line: &'t [u8],

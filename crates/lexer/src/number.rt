@@ -38,7 +38,7 @@ fn part(s: &[u8]) -> Option<&[u8]>
     }
 }
 
-/// What a run of digits stands for, and the most that an answer can be where it stands for more.
+/// What a run of digits stands for, or the greatest number of 32 bits where it stands for more.
 fn value(s: &[u8]) -> u32
     ensures value { result ≡ min (value_of s.now) 4294967295 }
     ensures bound { result + 23 ≤ 23 * 10 ^ length s.now }

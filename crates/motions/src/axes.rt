@@ -4,6 +4,7 @@ ghost use Rattle.motions.specs.Axes.{coordinate, alike, set_on, none_named, u_ax
 
 use algebra::vector::Vector;
 
+/// A machine axis.
 #[derive(Clone, Copy, Drop, PartialEq, Eq)]
 pub enum Axis {
     X,

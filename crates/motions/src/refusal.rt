@@ -54,6 +54,7 @@ impl Reason {
 }
 
 /// A refusal: its reason, the line and the motion that it speaks of, each 0 where it speaks of none.
+// 0 and no `Option`: lines and motions are counted from 1, and what a shop reads has the 0.
 #[derive(Clone, Copy, Drop, PartialEq, Eq)]
 pub struct Refusal {
     pub reason: Reason,

@@ -89,15 +89,17 @@ impl fmt::Display for Shown<'_, Target<Place>> {
     }
 }
 
-/// How a comparison is written.
-fn sign(how: Comparison) -> &'static str {
-    match how {
-        Comparison::Same => "==",
-        Comparison::Differs => "<>",
-        Comparison::Less => "<",
-        Comparison::Greater => ">",
-        Comparison::AtMost => "<=",
-        Comparison::AtLeast => ">=",
+/// The mark of a comparison.
+impl fmt::Display for Shown<'_, Comparison> {
+    fn fmt<W: fmt::Write>(&self, f: &mut fmt::Formatter<W>) -> fmt::Result {
+        f.write_str(match self.said {
+            Comparison::Same => "==",
+            Comparison::Differs => "<>",
+            Comparison::Less => "<",
+            Comparison::Greater => ">",
+            Comparison::AtMost => "<=",
+            Comparison::AtLeast => ">=",
+        })
     }
 }
 
@@ -105,7 +107,7 @@ fn sign(how: Comparison) -> &'static str {
 impl fmt::Display for Shown<'_, Test<Value>> {
     fn fmt<W: fmt::Write>(&self, f: &mut fmt::Formatter<W>) -> fmt::Result {
         let left = self.part(self.said.left);
-        let sign = sign(self.said.how);
+        let sign = self.part(self.said.how);
         let right = self.part(self.said.right);
         write!(f, "IF {left} {sign} {right}")
     }

@@ -7,6 +7,8 @@ ghost use Rattle.pathcheck.specs.Fields.{is_blank, fields, digits_of, number_of}
 /// As many digits as a number may have.
 const MOST_DIGITS: usize = 9;
 
+/// Whether a byte stands between fields.
+// The lexer asks the same of its bytes; these lines are of another format, which may change alone.
 fn is_blank(byte: u8) -> bool
     ensures value { result ≡ is_blank byte }
 {
@@ -30,7 +32,7 @@ fn field_end(line: &[u8]) -> Option<usize>
 }
 
 /// The fields of a line, or of what is left of it.
-// A type of its own, since a chain of closures has no name by which functions could take it.
+// A type of its own: whoever reads on promises which fields are left, for which a chain of closures has no word.
 #[derive(Drop)]
 pub struct Fields<'a>(pub &'a [u8]);
 

@@ -55,49 +55,51 @@ fn opening(field: &[u8]) -> Option<Command>
     }
 }
 
-/// The number in the next field.
-fn next_number(left: &mut Fields<'_>) -> Option<i32>
-    ensures value { result ≡ number_at (fields left.old.0.now) 0 }
-    ensures taken { OnSome result (Taken 1 (fields left.old.0.now) (fields left.new.0.now)) }
-{
-    number(left.next()?)
-}
+impl Fields<'_> {
+    /// The number in the next field.
+    fn next_number(&mut self) -> Option<i32>
+        ensures value { result ≡ number_at (fields self.old.0.now) 0 }
+        ensures taken { OnSome result (Taken 1 (fields self.old.0.now) (fields self.new.0.now)) }
+    {
+        number(self.next()?)
+    }
 
-/// The plane in the next field.
-fn next_plane(left: &mut Fields<'_>) -> Option<Plane>
-    ensures value { result ≡ plane_from (number_at (fields left.old.0.now) 0) }
-    ensures taken { OnSome result (Taken 1 (fields left.old.0.now) (fields left.new.0.now)) }
-{
-    let number = next_number(left)?;
-    Plane::try_from(u32::try_from(number).ok()?).ok()
-}
+    /// The plane in the next field.
+    fn next_plane(&mut self) -> Option<Plane>
+        ensures value { result ≡ plane_from (number_at (fields self.old.0.now) 0) }
+        ensures taken { OnSome result (Taken 1 (fields self.old.0.now) (fields self.new.0.now)) }
+    {
+        let number = self.next_number()?;
+        Plane::try_from(u32::try_from(number).ok()?).ok()
+    }
 
-/// The position in the next three fields.
-fn next_position(left: &mut Fields<'_>) -> Option<Position>
-    ensures value { result ≡ position_at (fields left.old.0.now) 0 }
-    ensures taken { OnSome result (Taken 3 (fields left.old.0.now) (fields left.new.0.now)) }
-{
-    let x = next_number(left)?;
-    let y = next_number(left)?;
-    let z = next_number(left)?;
-    Some(Axes { x, y, z })
-}
+    /// The position in the next three fields.
+    fn next_position(&mut self) -> Option<Position>
+        ensures value { result ≡ position_at (fields self.old.0.now) 0 }
+        ensures taken { OnSome result (Taken 3 (fields self.old.0.now) (fields self.new.0.now)) }
+    {
+        let x = self.next_number()?;
+        let y = self.next_number()?;
+        let z = self.next_number()?;
+        Some(Axes { x, y, z })
+    }
 
-/// The centre in the next two fields.
-fn next_centre(left: &mut Fields<'_>) -> Option<Vector>
-    ensures value { result ≡ centre_at (fields left.old.0.now) 0 }
-    ensures taken { OnSome result (Taken 2 (fields left.old.0.now) (fields left.new.0.now)) }
-{
-    let u = next_number(left)?;
-    let v = next_number(left)?;
-    Some(Vector { u, v })
+    /// The centre in the next two fields.
+    fn next_centre(&mut self) -> Option<Vector>
+        ensures value { result ≡ centre_at (fields self.old.0.now) 0 }
+        ensures taken { OnSome result (Taken 2 (fields self.old.0.now) (fields self.new.0.now)) }
+    {
+        let u = self.next_number()?;
+        let v = self.next_number()?;
+        Some(Vector { u, v })
+    }
 }
 
 /// What R or L asks for, where an end and no more follows.
 fn straight(kind: PathKind, mut left: Fields<'_>) -> Option<Asked>
     ensures value { (f : List ℕ) → result ≡ straight_of kind (f ∷ fields left.entry.0.now) }
 {
-    let end = next_position(&mut left)?;
+    let end = left.next_position()?;
     left.next().is_none().then_some(Asked { kind, end })
 }
 
@@ -105,9 +107,9 @@ fn straight(kind: PathKind, mut left: Fields<'_>) -> Option<Asked>
 fn curve(turn: Turn, mut left: Fields<'_>) -> Option<Asked>
     ensures value { (f : List ℕ) → result ≡ curve_of turn (f ∷ fields left.entry.0.now) }
 {
-    let plane = next_plane(&mut left)?;
-    let end = next_position(&mut left)?;
-    let centre = next_centre(&mut left)?;
+    let plane = left.next_plane()?;
+    let end = left.next_position()?;
+    let centre = left.next_centre()?;
     let kind = PathKind::Arc(Arc {
         plane,
         turn,

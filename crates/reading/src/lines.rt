@@ -20,6 +20,7 @@ const LINE_BYTES: usize = 512;
 const LINE_END: u8 = b'\n';
 
 /// Where the line that begins at a place ends.
+// A text and a place, as `code_end` has them: no token is read here, so no cursor.
 fn line_end(text: &[u8], from: usize) -> usize
     ensures value { result ≡ from + prefix_len in_line (drop from text.now) }
     ensures low { from ≤ result }

@@ -5,7 +5,7 @@ use forms::said::{Line, Place};
 use sums::value::Value;
 
 /// How many lines a text has at most.
-pub(crate) const MOST_LINES: usize = 2000;
+pub const MOST_LINES: usize = 2000;
 
 /// A line as it is held: where its code ends in the text, and what it says.
 // Names and sums are held by their places in the text: that is a form that was asked for.

@@ -44,6 +44,7 @@ fn first_bad(text: &[u8]) -> Option<usize>
 }
 
 /// Puts the lines of a text, each of which has a form, in the place of those that were there.
+// The field alone is lent here, so the program's two facts about it are asked and given back.
 fn fill(lines: &mut Vec<Held>, text: &[u8])
     requires room { 2000 ≤ vec_capacity lines.old }
     requires fits { limits text.now ≡ true }

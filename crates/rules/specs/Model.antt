@@ -7,7 +7,7 @@
 --     open_of o          the open repeats, the last one opened first
 --     last_of os, before_last os   the last one opened, and the others
 --     with_last r os     os with r in the place of the last one opened
---     Opened r os after b     opening r turned the open repeats os into `after` and answered b
+--     Opened r os after a     opening r turned the open repeats os into `after` and answered a
 --     setup_is u, made_is m, state_of s  what a setup, a motion made and the state of a run stand for
 --     line_after g n     the line at which a run goes on that goes g from line n
 --     came_to n s r      what line n came to that left the state s, itself still due, and answered r

@@ -16,7 +16,7 @@ pub(crate) struct Full;
 // An array and a count: a run is Copy and asks for no memory, so neither a Vec nor the kit's arrayvec serves.
 #[derive(Clone, Copy, Drop)]
 pub(crate) struct OpenRepeats {
-    rows: [Repeat; 8],
+    rows: [Repeat; MOST_REPEATS],
     used: usize,
     ghost few: { used ≤ 8 },
 }

@@ -41,6 +41,7 @@ pub struct Step {
 }
 
 /// Where a run goes on.
+// No `Option`: to go on at the next line is an answer, not the lack of one.
 #[derive(Clone, Copy, Drop, PartialEq, Eq)]
 pub(crate) enum Goes {
     /// At the next line.
@@ -55,6 +56,8 @@ pub(crate) struct Done {
     step: Step,
     goes: Goes,
 }
+
+// What a line comes to joins the state before it with the state after, so it stands in the contract of each method, and in no type.
 
 /// Where a run stands: the line that is due, what holds until it is set again, and what was made.
 #[derive(Clone, Copy, Drop)]

@@ -7,7 +7,7 @@ ghost use Rattle.sums.specs.Sums.{ranged};
 use std::marker::Model;
 
 /// The largest amount, in thousandths.
-const LARGEST: i64 = 9_999_999_999;
+pub const LARGEST: i64 = 9_999_999_999;
 
 /// What a sum or a parameter is worth, in thousandths: at most 9,999,999.999 either way.
 #[derive(Clone, Copy, Debug, PartialEq, Eq)]

@@ -9,7 +9,8 @@ use lexer::cursor::Cursor;
 use lexer::symbols::{Letter, Mark};
 use lexer::token::Token;
 
-/// The sign that a mark is, true for minus.
+/// The sign that a mark is, true for minus, as a value holds it.
+// No `TryFrom`: a flag comes from much else than a mark.
 fn sign_mark(m: Mark) -> Option<bool>
     ensures value { result ≡ mark_sign m }
 {
@@ -32,6 +33,7 @@ pub fn sign(c: Cursor<'_>) -> Option<(bool, Cursor<'_>)>
 }
 
 /// Whether a letter is a certain one.
+// The derived `==` by another name: the function is public, so it stays.
 pub fn is_letter(a: Letter, b: Letter) -> bool
     ensures value { result ≡ is_the a b }
 {

@@ -10,7 +10,7 @@ pub const PARAMETERS: usize = 100;
 /// The values of the parameters.
 #[derive(Clone, Copy)]
 pub struct Parameters {
-    values: [Amount; 100],
+    values: [Amount; PARAMETERS],
 }
 
 impl Parameters {

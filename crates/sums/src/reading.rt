@@ -17,8 +17,8 @@ use lexer::token::Token;
 /// How many brackets may be open at once.
 const BRACKETS: usize = 8;
 
-/// What a part of a sum is worth, if it is in range, and the cursor after it. Tried by `?` and `map`, of which today's Rattle
-/// writes no proof where an amount stands beside a reference: so a `let .. else` or a `match` takes it apart.
+/// What a part of a sum is worth, if it is in range, and the cursor after it.
+// Taken apart by `let .. else` or `match`: `?` was tried, and where an amount stands beside a reference it got no proof.
 type Read<'t> = (Option<Amount>, Cursor<'t>);
 
 /// A value added to what was added so far, or taken from it; nothing where either is beyond the range.
@@ -43,6 +43,9 @@ fn lead(c: Cursor<'_>) -> (bool, Cursor<'_>)
 {
     sign(c).unwrap_or((false, c))
 }
+
+// A cursor, the brackets that may be opened and the parameters are handed to each of these three. Each call changes the first, and
+// some the second, so a struct of them would be taken apart and made anew at each.
 
 /// A sum, while `depth` brackets may be opened in it: what it is worth, and the cursor after it.
 #[cycle(bracket_sum_term)]
@@ -82,7 +85,7 @@ fn term<'t>(c: Cursor<'t>, depth: usize, params: &Parameters) -> Option<Read<'t>
                 return None;
             }
             let k = n.digits(2)?;
-            // by `as`, since Rust has no `From<u32>` for `usize`
+            // by `as`: Rust has no `From<u32>` for `usize`, and a `TryFrom` would need an answer for what can't come
             Some((Some(params.get(k as usize)), next))
         }
         Token::Mark(_) => {

@@ -11,11 +11,8 @@ use index::index::Index;
 use language::indexed::Indexed;
 use language::targets::Targets;
 use motions::refusal::Refusal;
-use reading::program::Program;
+use reading::program::{MOST_LINES, Program};
 use traces::journal::Journal;
-
-/// A program has at most as many lines, so no more of its N numbers or labels.
-const ROOM: usize = 2000;
 
 /// Runs a program and records what it makes.
 fn run(
@@ -46,12 +43,13 @@ pub fn tell(rt: &HostRuntime, text: &[u8]) -> anyhow::Result<()> {
         println!(rt; "{refusal}")?;
         return Ok(());
     }
-    let mut numbers = vec![in heap; Entry { key: 0u32, line: 0 }; ROOM]?;
+    // A program has no more N numbers or labels than lines
+    let mut numbers = vec![in heap; Entry { key: 0u32, line: 0 }; MOST_LINES]?;
     let nowhere = Place { from: 0, length: 0 };
     let mut labels = vec![in heap; Entry {
         key: nowhere,
         line: 0
-    }; ROOM]?;
+    }; MOST_LINES]?;
     let mut journal = Journal::new(heap)?;
     let end = run(&program, &mut numbers, &mut labels, &mut journal);
     for made in journal.motions() {

@@ -12,7 +12,7 @@ use motions::ranges::{POSITION_RANGE, Ranged};
 use motions::refusal::Refusal;
 
 /// The limits with one of them changed.
-// `upper` stays a bool, as the setting that it comes from asks for it, and here it only tells which of two fields is written.
+// `upper` stays a bool, as callers hand it: a `Side` would first be made of that bool, by one more `if`.
 fn with_limit(upper: bool, axis: Axis, limit: Option<i32>, limits: Limits) -> Limits
     ensures value { result ≡ with_limit upper axis limit limits }
 {

@@ -74,7 +74,7 @@ impl RunState {
         ensures value { came_to self.old.due self.new result ≡ or_refuse ValueRange (state_of self.old) (shifted_by (shift_from adds self.old.frame.shift) values.now) (λ t. sets (with_shift t (state_of self.old).modal) (state_of self.old)) }
         ensures same { Unchanged self.old self.new result }
     {
-        // A test and no two arms of `performs`: tried, and the proof of such arms did not close.
+        // Two arms of `performs` in place of this test were tried, and their proof did not close.
         let old = if adds {
             self.frame.shift
         } else {
