@@ -36,6 +36,7 @@ impl fmt::Display for Shown<'_, Pause> {
     }
 }
 
+// The flags are asked where each is written: they choose a word, and no step.
 impl fmt::Display for Shown<'_, Statement<Value, Place>> {
     fn fmt<W: fmt::Write>(&self, f: &mut fmt::Formatter<W>) -> fmt::Result {
         match self.said {
