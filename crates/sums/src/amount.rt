@@ -49,10 +49,8 @@ impl TryFrom<u64> for Amount {
     ghost try_from_gives = { λ n r. result_ok r ≡ ranged (pos n) };
 
     fn try_from(thousandths: u64) -> Result<Amount, BeyondRange> {
-        match i64::try_from(thousandths) {
-            Ok(z) => Amount::try_from(z),
-            Err(_) => Err(BeyondRange),
-        }
+        let thousandths = i64::try_from(thousandths).map_err(|_| BeyondRange)?;
+        Amount::try_from(thousandths)
     }
 }
 
