@@ -146,6 +146,7 @@ pub(crate) fn statement(c: Cursor<'_>) -> Option<Statement<Value, Place>>
             Command::Repeat => repeat(next),
         },
         Token::Word(Letter::R, n) => assign(next, n),
+        // 25, 26 and 4 belong to no group: such a number chooses the form of its line
         Token::Word(Letter::G, n) => match n.integer()? {
             25 => limits(next, false),
             26 => limits(next, true),

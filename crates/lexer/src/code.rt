@@ -5,6 +5,9 @@ ghost use Rattle.lexer.specs.Bytes.{in_code};
 
 const SEMICOLON: u8 = b';';
 
+// The runs of digits, of a name's bytes and of code are one line each: a function over the test would ask something of its closure,
+// and public functions ask nothing.
+
 /// Where the code from a place on ends: at the first semicolon, or at the end.
 pub fn code_end(line: &[u8], from: usize) -> usize
     ensures value { result ≡ from + prefix_len in_code (drop from line.now) }

@@ -32,5 +32,6 @@ pub(crate) fn framed(words: &Words<Amount>, frame: Frame) -> Frame
 pub(crate) fn stops(action: Option<u32>) -> bool
     ensures value { result ≡ stops_at action }
 {
+    // An M number may have any two digits, and only these two mean something here
     matches!(action, Some(2 | 30))
 }

@@ -15,6 +15,7 @@ use reading::program::{MOST_LINES, Program};
 use traces::journal::Journal;
 
 /// Runs a program and records what it makes.
+// The two rooms are lent here, and make the targets, which hold both from then on.
 fn run(
     program: &Program<'_>,
     numbers: &mut [Entry<u32>],
