@@ -8,17 +8,17 @@ use motions::motion::Motion;
 use motions::row::{Arc, PathKind, Row, Turn};
 use std::test::Fail;
 
-pub fn at(x: i32, y: i32, z: i32) -> Position {
+pub(crate) fn at(x: i32, y: i32, z: i32) -> Position {
     Axes { x, y, z }
 }
 
 /// The motion of a row that keeps the rules.
-pub fn motion(kind: PathKind, start: Position, end: Position) -> Result<Motion, Fail> {
+pub(crate) fn motion(kind: PathKind, start: Position, end: Position) -> Result<Motion, Fail> {
     Motion::from_row(&Row { kind, start, end }).map_err(|_| Fail::new("the row makes no motion"))
 }
 
 /// An arc from start to end about a centre in its plane.
-pub fn arc(
+pub(crate) fn arc(
     plane: Plane,
     turn: Turn,
     start: Position,
@@ -38,7 +38,7 @@ pub fn arc(
 }
 
 /// The box that has only limits for one axis.
-pub fn from_to(axis: Axis, low: Option<i32>, high: Option<i32>) -> Result<LimitBox, Fail> {
+pub(crate) fn from_to(axis: Axis, low: Option<i32>, high: Option<i32>) -> Result<LimitBox, Fail> {
     let none = Axes::alike(None);
     LimitBox::new(Limits {
         lower: none.with(axis, low),
@@ -47,6 +47,6 @@ pub fn from_to(axis: Axis, low: Option<i32>, high: Option<i32>) -> Result<LimitB
     .map_err(|_| Fail::new("the limits are refused"))
 }
 
-pub fn edge(a: i32, b: i32, c: i32, d: i32) -> Result<Edge, Fail> {
+pub(crate) fn edge(a: i32, b: i32, c: i32, d: i32) -> Result<Edge, Fail> {
     Edge::new(at(a, b, c), d).map_err(|_| Fail::new("the edge is refused"))
 }
