@@ -97,3 +97,8 @@ module _ (w : Width) where
 
     pub sub_fits : a + b < 2 ^ hbits w → SFits w (z -ℤ y)
     sub_fits l = held sub_exact l
+
+-- equal bits are equal numbers
+pub same_bits : (w : Width) {a b : ℤ} → mag a < 2 ^ hbits w → mag b < 2 ^ hbits w → of_z w a ≡ of_z w b → a ≡ b
+same_bits w {a} {b} f g e =
+    sym (to_z-of_z w a (record { sfits = f })) ∙ ap (to_z w) e ∙ to_z-of_z w b (record { sfits = g })

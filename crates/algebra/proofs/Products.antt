@@ -3,8 +3,8 @@
 --     nn_mul, pos_mul, low_mul    the sign of a product, from those of its factors
 --     mul-≤, mul-<, cancel-≤      a common factor
 --     below_root, between         what a square and a product tell of their factors
-use Rattle.std.proofs.Common.{◌≡◌, zero, suc, [], ◌∷◌, ℤ, pos, negsuc, ◌+ℤ◌, ◌-ℤ◌, ◌*ℤ◌, ◌≤ℤ◌, ◌<ℤ◌, arith}
-use Rattle.std.specs.Int.Signed.{clash_ℤ}
+use Rattle.std.proofs.Common.{◌≡◌, zero, suc, true, false, [], ◌∷◌, ℤ, pos, negsuc, ◌+ℤ◌, ◌-ℤ◌, ◌*ℤ◌, ◌≤ℤ◌, ◌<ℤ◌, sym, ◌∙◌, arith}
+use Rattle.std.specs.Int.Signed.{lt_z, clash_ℤ}
 use Rattle.std.proofs.lemmas.Int.{ints, by_lt_z}
 use Rattle.algebra.proofs.Polynomials.{num, var, ◌⊕◌, ◌⊖◌, ◌⊗◌, identity}
 
@@ -91,3 +91,16 @@ between t w m hw hm h = (
   where
     apart : pos 0 <ℤ (t *ℤ (t -ℤ w)) → ⊥
     apart p = clash_ℤ (pos_mul (t *ℤ (t -ℤ w)) m p hm) h
+
+pub lt_z_yes : {a b : ℤ} → a <ℤ b → lt_z a b ≡ true
+lt_z_yes {a} {b} h = grind (arith, ints)
+
+pub lt_z_no : {a b : ℤ} → b ≤ℤ a → lt_z a b ≡ false
+lt_z_no {a} {b} h = grind (arith, ints)
+
+-- a factor above 0 leaves the sign of the other
+pub sign_mul : (a b : ℤ) → pos 0 <ℤ a → lt_z (pos 0) b ≡ lt_z (pos 0) (a *ℤ b)
+sign_mul a b h =
+    by_lt_z (pos 0) b
+    (λ lt. lt_z_yes lt ∙ sym (lt_z_yes (pos_mul a b h lt)))
+    (λ le. lt_z_no le ∙ sym (lt_z_no (low_mul a b (<-≤ h) le)))

@@ -1,8 +1,8 @@
 -- What the answer of a test tells: `MatchBool r I O` is I where r is true, O where it is false. Assumes nothing.
---     by_less           cond of a < test
---     less, at_most     the test itself
---     and_told          two tests, the second asked where the first holds
---     same_is           the test of equal numbers
+--     by_less                      cond of a < test
+--     less, at_most                the test itself
+--     and_told                     two tests, the second asked where the first holds
+--     same_is, same_not, same_yes  the test of equal numbers
 use Rattle.std.proofs.Common.{◌≡◌, Bool, true, false, cond, ◌&&◌, ℤ, ◌≤ℤ◌, ◌<ℤ◌, MatchBool, refl, arith}
 use lib.Signed.{lt_z, le_z}
 use Rattle.std.proofs.lemmas.Int.{ints}
@@ -31,3 +31,13 @@ module _ (I O : Type 0) where
 -- the test of equal numbers
 pub same_is : (a b : ℤ) → (le_z a b && le_z b a) ≡ true → a ≡ b
 same_is a b h = let p = and_parts (le_z a b) (le_z b a) h in omega (arith, ints, p.0, p.1)
+
+pub same_yes : (a b : ℤ) → a ≡ b → (le_z a b && le_z b a) ≡ true
+same_yes a b e = grind (arith, ints)
+
+pub same_not : (a b : ℤ) → (a ≡ b → ⊥) → (le_z a b && le_z b a) ≡ false
+same_not a b h = go (le_z a b && le_z b a) refl
+  where
+    go : (t : Bool) → (le_z a b && le_z b a) ≡ t → t ≡ false
+    go true e = absurd (h (same_is a b e))
+    go false e = refl

@@ -1,9 +1,14 @@
 -- The nearest of some lines. Assumes nothing.
 --     lines_picked                   the lines under a key that pass a test, as an iterator goes over the entries
+--     after_push, up_to_push         the nearest with one more line at the end
 --     after_nearest, up_to_nearest   the functions answer as the relations say
-use Rattle.std.proofs.Common.{◌≡◌, ℕ, ◌≤◌, min, max, Bool, true, false, cond, ◌&&◌, ltb, leb, ◌⊎◌, List, [], ◌∷◌, map, filter, Some, None, Option, MatchOption, sym, refl, ap, ◌∙◌, subst, inl, inr, ⊎_elim, arith}
+--     after_says, up_to_says         so does each answer that is the same as theirs
+use Rattle.std.proofs.Common.{◌≡◌, ℕ, ◌≤◌, min, max, Bool, true, false, cond, ◌&&◌, ltb, leb, ◌⊎◌, List, [], ◌∷◌, ◌++◌, map, filter, Some, None, Option, MatchOption, sym, refl, ap, ◌∙◌, subst, inl, inr, ⊎_elim, append-nil, arith}
 use Rattle.std.proofs.lemmas.Bool.{cond_both, cases_lt, cases_Bool, ltb-true, ltb-false, lt-ltb, leb-true, leb-false, le-leb}
+use Rattle.std.proofs.lemmas.List.Elements.{filter-append}
+use Rattle.std.proofs.lemmas.List.Sums.{fold_push}
 use Rattle.std.specs.List.{fold, reduce}
+use Rattle.std.specs.Option.{option_map, unwrap_or}
 use Rattle.index.specs.declared.entry.Entry.{Entry}
 use Rattle.index.specs.Nearest.{nearest_after, nearest_up_to, OneOf, NearestAfter, NearestUpTo}
 use Rattle.index.specs.Entries.{line_if, lines_with}
@@ -34,6 +39,23 @@ module _ (p : ℕ → Bool) where
   passes j (k ∷ ks) o t =
       cond_both (p k) _ _ (OneOf j) (λ w. ⊎_elim inl (λ o. inr (passes j ks o t)) o)
       (λ f. ⊎_elim (λ e. absurd (let z : true ≡ false = sym t ∙ ap p e ∙ f in let one : ◌≡◌ {A = ℕ} 0 1 = cc in omega arith)) (λ o. passes j ks o t) o)
+
+-- one more line at the end
+pushed : (f : ℕ → ℕ → ℕ) → ((a b : ℕ) → f a b ≡ f b a) → (p : ℕ → Bool) (ks : List ℕ) (k : ℕ) → reduce f (filter p (ks ++ k ∷ [])) ≡ cond (p k) (Some (unwrap_or (option_map (f k) (reduce f (filter p ks))) k)) (reduce f (filter p ks))
+pushed f swaps p ks k = ap (reduce f) (filter-append p ks (k ∷ [])) ∙ go (p k) (filter p ks)
+  where
+    go : (b : Bool) (js : List ℕ) → reduce f (js ++ cond b (k ∷ []) []) ≡ cond b (Some (unwrap_or (option_map (f k) (reduce f js)) k)) (reduce f js)
+    go false js = ap (reduce f) (append-nil js)
+    go true [] = refl
+    go true (j ∷ js) = ap Some (fold_push f j js k ∙ swaps (fold f j js) k)
+
+pub after_push : (n : ℕ) (ks : List ℕ) (k : ℕ) → nearest_after n (ks ++ k ∷ []) ≡ cond (ltb n k) (Some (unwrap_or (option_map (min k) (nearest_after n ks)) k)) (nearest_after n ks)
+unfolding nearest_after
+after_push n ks k = pushed min (λ a b. omega arith) (ltb n) ks k
+
+pub up_to_push : (n : ℕ) (ks : List ℕ) (k : ℕ) → nearest_up_to n (ks ++ k ∷ []) ≡ cond (leb k n) (Some (unwrap_or (option_map (max k) (nearest_up_to n ks)) k)) (nearest_up_to n ks)
+unfolding nearest_up_to
+up_to_push n ks k = pushed max (λ a b. omega arith) (λ k. leb k n) ks k
 
 -- f picks one of two lines, and R holds between what it picks and both
 module _ (f : ℕ → ℕ → ℕ) (R : ℕ → ℕ → Type 0) (picks : (k j : ℕ) → (f k j ≡ k) ⊎ (f k j ≡ j)) (itself : (k : ℕ) → R k k) (both : (r k j : ℕ) → R r (f k j) → R r k × R r j) where
@@ -73,3 +95,9 @@ up_to_nearest n ks = go (reduce max (filter (λ k. leb k n) ks)) (found max (λ 
     go : (r : Option ℕ) → MatchOption r ((j : ℕ) → OneOf j ks → leb j n ≡ false) (λ k. OneOf k ks × (leb k n ≡ true) × ((j : ℕ) → OneOf j ks → leb j n ≡ true → j ≤ k)) → NearestUpTo n ks r
     go None h = λ j o. leb-false j n (h j o)
     go (Some k) h = (h.0, leb-true k n h.1, λ j o l. h.2 j o (le-leb j n l))
+
+pub after_says : (n : ℕ) (ks : List ℕ) (r : Option ℕ) → r ≡ nearest_after n ks → NearestAfter n ks r
+after_says n ks r e = subst (NearestAfter n ks) (sym e) (after_nearest n ks)
+
+pub up_to_says : (n : ℕ) (ks : List ℕ) (r : Option ℕ) → r ≡ nearest_up_to n ks → NearestUpTo n ks r
+up_to_says n ks r e = subst (NearestUpTo n ks) (sym e) (up_to_nearest n ks)

@@ -38,6 +38,7 @@ impl<'a, K: Key> Index<'a, K> {
     }
 
     // These two share a chain but for its test and its end, and no function could hand that chain out: there is no `impl Iterator` as a result.
+    // They end by `reduce`, not by `min` or `max`: which of two lines is the nearer then stands here, where an edit can drop the choice.
 
     /// The nearest line above `line` that was entered under the key.
     pub fn after(&self, text: &[u8], key: &K, line: usize) -> Option<usize>
@@ -48,7 +49,7 @@ impl<'a, K: Key> Index<'a, K> {
             .iter()
             .filter(|e| e.line > line && e.key.is(key, text))
             .map(|e| e.line)
-            .min()
+            .reduce(|nearest, line| nearest.min(line))
     }
 
     /// The nearest line at or before `line` that was entered under the key.
@@ -60,7 +61,7 @@ impl<'a, K: Key> Index<'a, K> {
             .iter()
             .filter(|e| e.line <= line && e.key.is(key, text))
             .map(|e| e.line)
-            .max()
+            .reduce(|nearest, line| nearest.max(line))
     }
 
     /// The entries so far.

@@ -1,14 +1,50 @@
 -- From one token of a line to the next. Assumes nothing.
-use Rattle.std.proofs.Common.{◌≡◌, ℕ, zero, suc, ◌+◌, ◌-◌, ◌<◌, ◌≤◌, Bool, true, false, cond, List, [], ◌∷◌, length, get_or, drop, Some, None, sym, refl, ap, ◌∙◌, subst, add-zero, one-add, arith}
+use Rattle.std.proofs.Common.{◌≡◌, ℕ, zero, suc, ◌+◌, ◌-◌, ◌<◌, ◌≤◌, Bool, true, false, cond, List, [], ◌∷◌, map, length, get_or, take, drop, Some, None, sym, refl, ap, ◌∙◌, subst, add-zero, one-add, arith}
 use Rattle.std.specs.List.{prefix_len}
-use Rattle.std.proofs.lemmas.List.{drop_all, drop-drop, get_or-drop, length-drop}
+use Rattle.std.proofs.lemmas.List.{drop_all, drop_more, drop-drop, get_or-drop, length-drop}
 use Rattle.std.proofs.lemmas.List.Sums.{prefix_len_stops}
-use Rattle.lexer.specs.Bytes.{is_blank, opens}
-use Rattle.lexer.specs.Tokens.{Token, opened, followed, tokens_from, first, rest}
+use Rattle.std.specs.Char.{to_ascii_lowercase}
+use Rattle.lexer.specs.Bytes.{is_blank, in_name, letter_of, opens}
+use Rattle.lexer.specs.Tokens.{Token, Num, name, word, letter, number, num_of, num_length, opened, followed, tokens_from, first, rest}
 use Rattle.lexer.specs.Model.{tokens, ahead, left, token_is, Moves, Opened, Cut}
 use Rattle.lexer.specs.declared.cursor.Cursor.{Cursor}
+use Rattle.lexer.specs.declared.symbols.Letter.{Letter}
+use Rattle.lexer.specs.declared.symbols.Opens.TheVariants.{Name as AName, Word as AWord, Letter as ALetter, Number as ANumber}
 use Rattle.lexer.specs.declared.token.Token as code
 use Rattle.lexer.specs.declared.token.Token.TheVariants.{Name as Named, Word, Letter as Lettered, Number as Numbered, Mark as Marked, Bad, End}
+use Rattle.lexer.proofs.Lengths.{head_at, part_length_lem}
+
+pub tokens_end : (s : List ℕ) (i : ℕ) → length s ≤ i → tokens s i ≡ []
+unfolding tokens_from
+tokens_end s i h = ap (tokens_from 0 i) (drop_all i s h)
+
+-- what opens at a place of the line, and the token that it is
+module _ (s : List ℕ) (i : ℕ) (inside : i < length s) where
+  pub blank : is_blank (get_or s i 0) ≡ true → tokens s (i + 1) ≡ tokens s i
+  unfolding tokens_from
+  blank e =
+      let c = get_or s i 0 in
+      let cs = drop (i + 1) s in
+      sym (ap (tokens_from 0 i) (drop_more s i 0 inside) ∙ ap (λ b. followed (cond b None (Some (opened (opens c (get_or cs 0 0)) i (c ∷ cs)))) (λ k. tokens_from k (i + 1) cs)) e)
+
+  pub name_at_lem : (to : ℕ) (shut : Bool) → to ≡ i + prefix_len in_name (drop i s) → shut ≡ is_blank (get_or s to 32) → opened (Some AName) i (drop i s) ≡ (name (map to_ascii_lowercase (take (to - i) (drop i s))) i shut, prefix_len in_name (drop i s))
+  name_at_lem to shut e f =
+      let n : prefix_len in_name (drop i s) ≡ to - i = omega arith in
+      λ j. (name (map to_ascii_lowercase (take (n j) (drop i s))) i ((ap is_blank (get_or-drop i s (prefix_len in_name (drop i s)) 32 ∙ ap (λ k. get_or s k 32) (sym e)) ∙ sym f) j), prefix_len in_name (drop i s))
+
+  pub name_placed : (to : ℕ) → i ≤ to → to ≤ length s → take (to - i) (drop i s) ≡ take (length (take (to - i) (drop i s))) (drop i s)
+  name_placed to low high = ap (λ k. take k (drop i s)) (sym (part_length_lem s i to low high))
+
+  pub word_at : (l : Letter) (n : Num) → l ≡ letter_of (to_ascii_lowercase (get_or s i 0)) → n ≡ num_of (drop (i + 1) s) → opened (Some AWord) i (drop i s) ≡ (word l n, 1 + num_length (num_of (drop (i + 1) s)))
+  word_at l n e f =
+      (λ j. (word (letter_of (to_ascii_lowercase (head_at s i j))) (num_of (drop-drop 1 i s j)), 1 + num_length (num_of (drop-drop 1 i s j))))
+      ∙ (λ j. (word (sym e j) (sym f j), 1 + num_length (num_of (drop (i + 1) s))))
+
+  pub letter_at : (l : Letter) → l ≡ letter_of (to_ascii_lowercase (get_or s i 0)) → opened (Some ALetter) i (drop i s) ≡ (letter l, 1)
+  letter_at l e = λ j. (letter ((ap (λ c. letter_of (to_ascii_lowercase c)) (head_at s i) ∙ sym e) j), 1)
+
+  pub number_at : (n : Num) → n ≡ num_of (drop i s) → opened (Some ANumber) i (drop i s) ≡ (number n, num_length (num_of (drop i s)))
+  number_at n f = λ j. (number (sym f j), num_length (num_of (drop i s)))
 
 skip : (k i : ℕ) (s : List ℕ) → tokens_from k i s ≡ tokens_from 0 (i + k) (drop k s)
 unfolding tokens_from

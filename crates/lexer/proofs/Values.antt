@@ -7,6 +7,13 @@ use Rattle.lexer.specs.Tokens.{Num}
 use Rattle.lexer.specs.Numbers.{shifted, value_of, part_digits, decimal_of}
 use Rattle.lexer.specs.Model.{OfDigits}
 
+pub part_small : (x k : ℕ) → x + 23 ≤ 23 * 10 ^ k → k ≤ 3 → x * 10 ^ (3 - k) ≤ 23000
+part_small x zero h l = omega arith
+part_small x (suc zero) h l = omega arith
+part_small x (suc (suc zero)) h l = omega arith
+part_small x (suc (suc (suc zero))) h l = omega arith
+part_small x (suc (suc (suc (suc k)))) h l = absurd (omega arith)
+
 -- so many digits stand for less than that power of ten
 
 folded_small : (a : ℕ) (ds : List ℕ) → all_digits ds ≡ true → fold shifted a ds + 1 ≤ (a + 1) * 10 ^ length ds

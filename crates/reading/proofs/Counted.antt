@@ -1,10 +1,10 @@
 -- Lines by their numbers, and the front of a text. Assumes nothing.
-use Rattle.std.proofs.Common.{◌≡◌, ℕ, zero, suc, ◌-◌, ◌<◌, ◌≤◌, min, Bool, true, false, leb, ltb, List, [], ◌∷◌, length, get_or, take, drop, Some, None, Option, Bor, sym, refl, ap, ◌∙◌, arith}
+use Rattle.std.proofs.Common.{◌≡◌, ℕ, zero, suc, ◌-◌, ◌<◌, ◌≤◌, min, Bool, true, false, leb, ltb, ◌⊎◌, List, [], ◌∷◌, map, length, get_or, take, drop, Some, None, Option, Bor, sym, refl, ap, ◌∙◌, inl, inr, arith}
 use Rattle.std.proofs.lemmas.List.{take_all, drop_all}
-use Rattle.std.proofs.lemmas.Option.{slice_get_past, slice_get_read}
+use Rattle.std.proofs.lemmas.Option.{slice_get-get_or, slice_get-map, slice_get_past, slice_get_read}
 use Rattle.std.proofs.lemmas.Bool.{leb-true, leb-false, ltb-true, ltb-false}
 use Rattle.std.specs.List.{slice_get}
-use Rattle.std.specs.Option.{is_some, IfSome, option_copied}
+use Rattle.std.specs.Option.{is_some, IfSome, option_copied, option_map}
 use Rattle.forms.specs.Numbered.{numbered}
 
 -- what a list's `get` gives, copied
@@ -15,6 +15,17 @@ gotten xs i (Some x) some h = sym (slice_get_read xs (length xs) i x.now refl (l
 pub numbered_is : {A : Type 0} (ls : List A) (n i : ℕ) → 1 ≤ n → i ≡ n - 1 → numbered ls n ≡ slice_get ls i
 numbered_is ls zero i h e = absurd (omega arith)
 numbered_is ls (suc n) i h e = let k : n ≡ i = omega arith in ap (slice_get ls) k
+
+pub numbered_none : {A : Type 0} (ls : List A) (n : ℕ) → (n ≡ 0) ⊎ (length ls < n) → None ≡ numbered ls n
+numbered_none ls zero h = refl
+numbered_none ls (suc n) (inl h) = absurd (omega arith)
+numbered_none ls (suc n) (inr h) = sym (slice_get_past ls n (omega arith))
+
+pub numbered_some : {A B : Type 0} (f : A → B) (xs : List A) (n : ℕ) (x : A) → 0 < n → n ≤ length xs → x ≡ get_or xs (n - 1) x → Some (f x) ≡ numbered (map f xs) n
+numbered_some f xs zero x h l e = absurd (omega arith)
+numbered_some f xs (suc n) x h l e =
+    let k : suc n - 1 ≡ n = omega arith in
+    ap (λ y. Some (f y)) (e ∙ ap (λ i. get_or xs i x) k) ∙ ap (option_map f) (sym (slice_get-get_or xs n x (omega arith))) ∙ sym (slice_get-map f xs n)
 
 nth_one : {A : Type 0} (xs : List A) (i : ℕ) (x : A) → Some x ≡ slice_get xs i → (i < length xs) × (drop i xs ≡ x ∷ drop (suc i) xs)
 nth_one [] i x h = absurd (cc)

@@ -3,6 +3,7 @@ ghost use Rattle.std.specs.Prelude.{◌≡◌, replicate, pos, if◌then◌else�
 ghost use Rattle.sums.specs.Ranges.{in_range};
 
 use crate::amount::Amount;
+pub use crate::amount::LARGEST;
 
 /// How many parameters there are.
 pub const PARAMETERS: usize = 100;
