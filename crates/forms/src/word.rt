@@ -83,8 +83,14 @@ fn apart(kind: Kind, c: Cursor<'_>) -> Option<(Word<Value>, Cursor<'_>)>
     ensures value { spaced_of kind (ahead c.entry) ≡ read_by (word_is c.entry.line.now) result }
     ensures past { Past c.entry result }
 {
-    let (value, next) = signed(c)?;
-    Some((valued(kind, value)?, next))
+    // The kind is asked first: of a letter that takes no value, none is read
+    match kind {
+        Kind::Axis(_) | Kind::Centre(_) => {
+            let (value, next) = signed(c)?;
+            Some((valued(kind, value)?, next))
+        }
+        _ => None,
+    }
 }
 
 impl Command {

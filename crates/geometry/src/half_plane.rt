@@ -33,6 +33,8 @@ impl ArcAndHalfPlane {
     }
 
     /// Whether the arc stays in the half plane.
+    // A hint to LLVM: the arc and the half plane then need not be laid down in memory to be handed over.
+    #[inline(always)]
     pub(crate) fn stays(self) -> bool
         ensures value { result ≡ stays_is self.start self.end self.normal self.limit }
     {

@@ -33,6 +33,8 @@ fn name(place: usize, s: &[u8]) -> Name<'_>
 }
 
 /// The token that bytes begin with, which is no blank, and its length; they stand at a place of their line.
+// A hint to LLVM, here and at `token`: a caller that asks for one kind of token keeps no other, where a token handed over is large.
+#[inline(always)]
 fn first(place: usize, s: &[u8]) -> Option<(Token<'_>, usize)>
     ensures begins { Begins place s.entry.now result }
 {
@@ -59,7 +61,7 @@ fn first(place: usize, s: &[u8]) -> Option<(Token<'_>, usize)>
 
 impl<'t> Cursor<'t> {
     /// The bytes from the cursor on.
-    fn rest(self) -> &'t [u8]
+    pub fn rest(self) -> &'t [u8]
         ensures value { result.now ≡ drop self.entry.at self.entry.line.now }
     {
         self.line.get(self.at..).unwrap_or(&[])
@@ -78,6 +80,7 @@ impl<'t> Cursor<'t> {
     }
 
     /// The token that stands next, and the cursor after it.
+    #[inline(always)]
     pub fn token(self) -> (Token<'t>, Cursor<'t>)
         ensures cut { Cut self.entry result.0 result.1 }
     {

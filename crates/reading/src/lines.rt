@@ -1,11 +1,12 @@
 //! The lines of a text, and the limits of a text.
-ghost use Rattle.std.specs.Prelude.{◌≡◌, ◌+◌, ◌-◌, ◌≤◌, length, drop};
+ghost use Rattle.std.specs.Prelude.{◌≡◌, ◌+◌, ◌-◌, ◌≤◌, ◌&&◌, nat_le, length, drop};
 ghost use Rattle.std.specs.Iterator.{YieldsFirstBy, at_most};
 ghost use Rattle.std.specs.List.{prefix_len};
 ghost use Rattle.reading.specs.Lines.{in_line, lines_of, all_short, limits, bytes_of, placed, placed_line, lines_left};
 
 use crate::line::TextLine;
 use crate::program::MOST_LINES;
+use lexer::cursor::Cursor;
 
 /// How many bytes tell whether a text is too large: one more than it may have.
 pub const ENOUGH: u64 = 65_537;
@@ -20,17 +21,18 @@ const LINE_BYTES: usize = 512;
 const LINE_END: u8 = b'\n';
 
 /// Where the line that begins at a place ends.
-// A text and a place, as `code_end` has them: no token is read here, so no cursor.
+// A text and a place, as `code_end` has them: no token is read here, so the cursor cuts the text and is gone.
 fn line_end(text: &[u8], from: usize) -> usize
     ensures value { result ≡ from + prefix_len in_line (drop from text.now) }
     ensures low { from ≤ result }
     ensures inside { from ≤ length text.now → result ≤ length text.now }
 {
-    from + text
-        .iter()
-        .skip(from)
-        .take_while(|b| **b != LINE_END)
-        .count()
+    let rest = Cursor {
+        line: text,
+        at: from,
+    }
+    .rest();
+    from + rest.iter().take_while(|b| **b != LINE_END).count()
 }
 
 /// The lines of a text from a place on, one after the other.
@@ -76,25 +78,28 @@ impl TextLine<'_> {
     {
         self.end - self.from
     }
+
+    /// Whether the line has no byte too many.
+    fn is_short(self) -> bool
+        ensures value { result ≡ nat_le (length (bytes_of self.entry)) 512 }
+    {
+        self.len() <= LINE_BYTES
+    }
 }
 
-/// How many lines a text has.
-fn count(text: &[u8]) -> usize
-    ensures value { result ≡ length (lines_of text.now) }
+/// Whether a text has no line too many, and no line of it a byte too many.
+// One walk over the text, which ends where the first line too many or too long does.
+fn each_fits(text: &[u8]) -> bool
+    ensures value { result ≡ (nat_le (length (lines_of text.now)) 2000 && all_short (lines_of text.now)) }
 {
-    Lines::of(text).count()
-}
-
-/// Whether no line of a text has too many bytes.
-fn each_short(text: &[u8]) -> bool
-    ensures value { result ≡ all_short (lines_of text.now) }
-{
-    Lines::of(text).all(|line| line.len() <= LINE_BYTES)
+    Lines::of(text)
+        .enumerate()
+        .all(|(before, line)| before < MOST_LINES && line.is_short())
 }
 
 /// Whether a text is within its three limits.
 pub fn within_limits(text: &[u8]) -> bool
     ensures value { result ≡ limits text.now }
 {
-    text.len() <= MOST_BYTES && count(text) <= MOST_LINES && each_short(text)
+    text.len() <= MOST_BYTES && each_fits(text)
 }

@@ -85,6 +85,8 @@ impl Edge {
     }
 
     /// Whether a motion stays in the edge.
+    // A hint to LLVM: a box asks up to six edges of the same motion, and then reads its numbers once.
+    #[inline(always)]
     pub(crate) fn keeps(&self, motion: &Motion) -> bool
         ensures value { result ≡ keeps_is (normal_of self.now) (limit_of self.now) (row_of motion.now) }
     {
